@@ -1,16 +1,19 @@
-"""The page of definitions, as it is written from the comments above the definitions."""
+"""The page of definitions, as it is made from the comments above the definitions. It isn't kept in the repository."""
 
 import re
 
 import definitions
 
+# Where `tools/definitions` writes it.
+PAGE = "out/DEFINITIONS.md"
+
 # What stands above all crates; its lines are joined to paragraphs.
 HEAD = """# Definitions
 
-<!-- Written by tools/definitions from the comments in the sources. To change a line, change the comment. -->
+<!-- Made by tools/definitions from the comments in the sources. To change a line, change the comment. -->
 
 Every public definition of every crate, with the comment above it in the source. The crates and files are in reading
-order. [REVIEW](REVIEW.md) quotes the definitions that state the rules of RFC 6455 and compares them with its text.
+order. [REVIEW]({root}docs/proof/REVIEW.md) quotes the definitions that state the rules of RFC 6455 and compares them with its text.
 
 - The line below a file's name is the head of the file. It names the section of RFC 6455.
 - A definition that has no comment of its own is shown with its type. Most of these are parts of the definition above
@@ -25,9 +28,9 @@ the laws `worked_verdicts` and `worked_protocol_verdicts` of `ws_suite`.
 """
 
 
-def page_of(root, page):
-    """The text of the page, which stands at `page` below `root`."""
-    up = "../" * (len(page.relative_to(root).parts) - 1)
+def page_of(root):
+    """The text of the page, whose links begin at its place below `root`."""
+    up = "../" * PAGE.count("/")
     parts = [re.sub(r"(?<=.)\n(?=\w|\[)", " ", HEAD).format(root=up)]
     for crate in crates_in(root):
         files = list(files_of(root / "crates" / crate))
@@ -35,6 +38,11 @@ def page_of(root, page):
             parts.append(f"## {crate}\n\n{what_it_is(root / 'crates' / crate)}\n")
             parts += [file_part(file, up + str(file.relative_to(root))) for file in files]
     return "\n".join(parts)
+
+
+def parts_of(text):
+    """The parts of the page by their crates."""
+    return dict(part.split("\n", 1) for part in re.split(r"(?m)^## ", text)[1:])
 
 
 def crates_in(root):

@@ -3,10 +3,10 @@
 import re
 
 from claims import product_crates, words_by_hand
-from tables import words_of_last_cells, words_written
+from tables import words_of_crates, words_written
 
-# Written whole by a tool: `tools/definitions`, and `peers/run` from sentences that stand in these files.
-WRITTEN = {"docs/proof/DEFINITIONS.md": (), "docs/SCORES.md": ("peers/remarks.txt", "peers/sweeps.txt")}
+# Written whole by `peers/run`, from sentences that stand in these files.
+WRITTEN = {"docs/SCORES.md": ("peers/remarks.txt", "peers/sweeps.txt")}
 QUOTE = re.compile(r"(?ms)^\[[^\]]*\]\([^)]+\):?\n+```antt\n.*?^```$|^```antt\n.*?^```$|^Paths: .*?$")
 
 
@@ -23,5 +23,5 @@ def kept_words(root):
             counts[name] = len(QUOTE.sub("", text).split())
         else:
             counts[name] = len(text.split()) - words_written(text)
-            counts[name] -= words_of_last_cells(text) if name == "docs/CRATES.md" else 0
+            counts[name] -= words_of_crates(text) if name == "docs/CRATES.md" else 0
     return counts

@@ -1,17 +1,20 @@
-"""The tables that are written from elsewhere: the rules of VERDICTS and the titles of CASES, from definitions, and on
-what each crate of CRATES stands, from `crates.txt`."""
+"""The tables that are written from elsewhere: the rules of VERDICTS and the titles of CASES, from definitions, and of
+each crate of CRATES what it is, from the head of its sources, and on what it stands, from `crates.txt`."""
 
 import re
+
+from index import what_it_is
 
 SENTENCE = r'((?:\s+(?:\+\+ )?codes ".*")+)$'
 RULE = re.compile(rf"(?m)^(fail|loose|protocol|protocol_loose)_rule (\w+) \w+\.(\w+) ={SENTENCE}")
 FAULT_RULE = re.compile(rf"(?m)^(?:reason_rule reason\.(\w+)|(doomed)_rule) ={SENTENCE}")
+SENDER_RULE = re.compile(rf"(?m)^sender_rule reason\.(\w+) ={SENTENCE}")
 TITLE = re.compile(r'(?m)^    (?:∷ )?\(codes "(.*)", codes "(.*)"\)$')
 HEADS = {
     False: "| Verdict | Rule of a server | Rule of a client |",
     True: "| Verdict | What the standard orders of a server | What it orders of a client |",
 }
-FAULT_HEAD = "| Violation | Rule |"
+FAULT_HEAD = "| Violation | Rule if it was sent | Rule if it was received |"
 TITLE_HEAD = "| Case | Title |"
 
 
@@ -43,7 +46,9 @@ def with_rules(page, words):
 
 def with_fault_rules(page, rules):
     """The page of verdicts with the table of the rules of faults."""
-    return with_table(page, FAULT_HEAD, fault_rules_of(rules).items())
+    senders = {name: sentence_of(parts) for name, parts in SENDER_RULE.findall(rules)}
+    rows = [(name, rule, senders.get(name, "")) for name, rule in fault_rules_of(rules).items()]
+    return with_table(page, FAULT_HEAD, rows)
 
 
 def with_titles(page, titles):
@@ -69,9 +74,10 @@ def all_below(names, below):
     return found | all_below(found, below) if found else found
 
 
-def with_crates(page, crates):
-    """The page of crates with what each stands on: the crates below which it has no other, and others' crates."""
-    below = below_of(crates)
+def with_crates(page, root):
+    """The page of crates with what each is, the first sentence at the head of its sources, and what it stands on: the
+    crates below which it has no other, and others' crates."""
+    below = below_of((root / "crates.txt").read_text())
     for name, names in below.items():
         ours = [one for one in names if one in below and one not in all_below(set(names) - {one}, below)]
         reached = all_below(ours, below)
@@ -79,7 +85,12 @@ def with_crates(page, crates):
         told += f" and what {'it stands' if len(ours) == 1 else 'they stand'} on" if reached else ""
         theirs = [f"`{one}`" for one in names if one not in below and one not in reached]
         cell = "".join(f" {one}" for one in [", ".join([told, *theirs] if told else theirs)] if one)
-        page = re.sub(rf"(?m)^(\| `{name}` \|.*\|) [^|]*\|$", lambda row: f"{row[1]}{cell} |", page)
+        head = what_it_is(root / "crates" / name).split(". ")[0].rstrip(".")
+        page = re.sub(
+            rf"(?m)^(\| `{name}` \|)[^|]*(\|.*\|) [^|]*\|$",
+            lambda row: f"{row[1]} {head} {row[2]}{cell} |",
+            page,
+        )
     return page
 
 
@@ -90,6 +101,7 @@ def words_written(page):
     return len(" ".join(text for found in rows for text in found).split())
 
 
-def words_of_last_cells(page):
-    """How many words the last cells of the rows of crates have, with the bars of their rows."""
-    return sum(len(row.split("|")[-2].split()) for row in page.splitlines() if row.startswith("| `"))
+def words_of_crates(page):
+    """How many words of the rows of crates are written so."""
+    rows = [row.split("|") for row in page.splitlines() if row.startswith("| `")]
+    return sum(len(row[2].split()) + len(row[-2].split()) for row in rows)

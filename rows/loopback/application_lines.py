@@ -92,6 +92,18 @@ class Chat(Application):
             super().take(first, payload)
 
 
+class Undefined(Chat):
+    """It closes at a text with a code that the standard leaves undefined, and goes once the other has ended."""
+
+    def take(self, first, payload):
+        if first % 16 == TEXT:
+            self.client.send(frame(CLOSE, b"\x03\xf8"))
+            self.client.rest()
+            self.is_open = False
+        else:
+            super().take(first, payload)
+
+
 class Newest(Application):
     """It reads late: all pings that are there before it answers the last of them."""
 
@@ -186,8 +198,26 @@ def a_chat_server_that_closes_at_a_text():
         "got 1 ping 74686572653f",
         "got 1 close 1008",
         "end peer 1",
-        "rule An endpoint may send a close frame at any time (RFC 6455 section 7.1.2)",
+        "rule A server may close the connection whenever desired (RFC 6455 section 7.3)",
     )
+
+
+def a_server_that_closes_with_an_undefined_code():
+    # The tester ends its own direction at that, so that the case has ended long before its time limit.
+    began = time.monotonic()
+    told(
+        Undefined,
+        "5.6",
+        "LOOSE OwnClose",
+        "got 1 text 77656c636f6d65",
+        "got 1 ping 74686572653f",
+        "got 1 close 1016",
+        "end peer 1",
+        "rule A server may close the connection whenever desired (RFC 6455 section 7.3)",
+        limit=8,
+    )
+    took = time.monotonic() - began
+    assert took < 4, took
 
 
 def a_server_that_answers_the_newest_ping():
@@ -201,7 +231,8 @@ def a_server_that_answers_the_newest_ping():
         "got 2 close 1000",
         "end peer 2",
         "rule A ping needs no answer if a later one is answered (RFC 6455 section 5.5.3), or if the endpoint may not "
-        "have read it or was sending a data frame",
+        "have read it or was sending a data frame: frames are not interleaved (section 5.4), and a pong should come as"
+        " soon as is practical (section 5.5.2)",
     )
 
 
@@ -230,8 +261,8 @@ def a_server_that_lets_a_reserved_bit_pass():
         "FAIL End",
         "due 1 end ReservedBits",
         "end tester 1",
-        "rule A server closes the connection at once when it has to fail it after a violation (RFC 6455 sections 5.1, "
-        "5.2, 7.1.7 and 8.1), or when it has sent and received a close frame (section 5.5.1)",
+        "rule A server closes the connection when it has to fail it after a violation (RFC 6455 sections 5.1, 5.2, "
+        "7.1.7 and 8.1), and immediately when it has sent and received a close frame (section 5.5.1)",
         "rule A reserved bit is 0 unless an extension defines it, and an endpoint that receives a 1 fails the "
         "connection (RFC 6455 section 5.2)",
     )
@@ -245,8 +276,8 @@ def a_server_that_goes_away():
         "LOOSE NoClose",
         "due 2 close 1000",
         "end peer 2",
-        "rule An endpoint that receives a close frame sends one (RFC 6455 section 5.5.1), unless it ended the "
-        "connection before it read that frame",
+        "rule A close frame is answered by one (RFC 6455 section 5.5.1), and an endpoint that has to fail the "
+        "connection closes it (section 7.1.7); it may not have read so far, or was sending a message of its own",
     )
 
 
@@ -259,8 +290,8 @@ def a_server_that_goes_away_before_a_close():
     judge = start("judge", "--expect=protocol", "--explain", stdin=subprocess.PIPE)
     output, faults = judge.communicate(capture.encode(), timeout=SECONDS)
     rule = (
-        "An endpoint that wants to end the connection sends a close frame first (RFC 6455 section 7.1.2), but may end "
-        "it by any means if necessary (section 7.1.1)"
+        "An endpoint closes the connection by a close frame first (RFC 6455 section 7.1.2); when necessary it may "
+        "close it by any means (section 7.1.1), and at data that it does not understand it may drop it (section 10.7)"
     )
     assert output.decode() == f"LOOSE OwnEnd\n  end peer 1\n  rule {rule}\n", output
     assert (judge.returncode, faults) == (0, b""), faults
@@ -289,6 +320,7 @@ def a_pong_of_its_own_hides_no_answer():
 TESTS = [
     a_chat_server,
     a_chat_server_that_closes_at_a_text,
+    a_server_that_closes_with_an_undefined_code,
     a_server_that_answers_the_newest_ping,
     a_server_that_answers_no_ping,
     a_server_that_lets_a_reserved_bit_pass,

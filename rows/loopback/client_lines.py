@@ -198,10 +198,11 @@ def a_client_that_forgets_the_mask():
     run.ends(
         "1.1.1 FAIL NotFrames",
         "  due 1 text -",
-        "  got 1 failed MaskWrong",
+        "  got 1 failed MaskWrong at 2 8100",
         "  end tester 1",
-        "  rule All that a client sends must be valid (the last `got` line says what was not): whole masked frames in a valid order, with valid lengths and close "
-        "payloads (RFC 6455 section 5), text in UTF-8 (section 8.1), and nothing after its close frame (ours)",
+        "  rule All that a client sends must be valid (the last `got` line says what was not): masked frames in a valid order, with valid lengths and close "
+        "payloads (RFC 6455 section 5), text in UTF-8 (section 8.1), no end inside a frame and nothing after its close frame (both ours)",
+        "  rule A client masks all frames that it sends, and a server masks none (RFC 6455 section 5.1)",
         "0 pass, 0 loose, 1 fail",
         status=1,
     )
@@ -614,11 +615,11 @@ def no_host_to_listen_at():
             assert run(*words, "--role=client") == bad, words
         for words in (["send", address], ["send", "--capture", address], ["sweep", address], ["sweep", "--steps=0", address]):
             assert run(*words, "--role=client") == bad, words
-        assert run("test", "--role=client", "--key=x", address) == (2, b"", b"bad key\n"), address
+        assert run("test", "--role=client", "--key=x", address) == (2, b"", b"bad key\n  eight lower-case hexadecimal digits: --key 37fa213d\n"), address
         assert run("sweep", "--role=client", "--steps=5", address) == (2, b"", b"--steps takes 0 to 4\n"), address
     longest = "a" * 250 + ":9001"
     assert run("sweep", "--role=client", "--steps=0", longest) == (3, b"", b"not listening: no such host\n")
-    told = b"bad address\nwss is not spoken: put a TLS client before it, see --connect\n"
+    told = b"bad address\nwss:// is not supported; run socat or stunnel and pass its address to --connect\n"
     assert run("test", "--role=client", "wss: b", "1.1.1") == (2, b"", told)
 
 

@@ -1,7 +1,9 @@
 """Exchanges of `test_loops` over sockets: an echo that writes before it reads on, addresses that take no connection,
 and how long it waits; and clients of one loop that listens."""
 
+import os
 import resource
+import signal
 import socket
 import subprocess
 import threading
@@ -130,6 +132,35 @@ def a_write_of_which_nothing_is_taken_fails():
     lasted(answer, "came 0 right", 10, more=40)
 
 
+def a_wait_that_is_interrupted_ends_in_time():
+    """It is stopped shortly before the limit, and goes on: that interrupts its wait, which goes on for what is left."""
+    with Listening(read_to_end) as server:
+        run = subprocess.Popen([LOOPS], stdin=subprocess.PIPE, stdout=subprocess.PIPE)
+        run.stdin.write(f"socket 127.0.0.1:{server.port} 1500 - 2 2\n".encode())
+        run.stdin.close()
+        time.sleep(1.2)
+        run.send_signal(signal.SIGSTOP)
+        os.waitid(os.P_PID, run.pid, os.WSTOPPED)
+        run.send_signal(signal.SIGCONT)
+        answer = run.stdout.read().decode().rstrip("\n")
+        assert run.wait(SECONDS) == 0
+    lasted(answer, "came 0 right", 15)
+
+
+def a_look_up_counts_to_the_deadline():
+    """The deadline begins before the name is looked up, and that takes most of it."""
+    with Listening(read_to_end) as server:
+        answer = answer_to(f"socket 1000ms,127.0.0.1:{server.port} 5000 1300 2 2")
+    lasted(answer, "came 0 right", 13)
+
+
+def a_look_up_lasts_beyond_the_deadline():
+    """It isn't broken off: the deadline is seen behind it, and no address is waited for."""
+    with Listening(read_to_end) as server:
+        answer = answer_to(f"socket 1500ms,127.0.0.1:{server.port} 5000 500 2 2")
+    lasted(answer, "", 15)
+
+
 class Accepting:
     """A loop that listens, at a port that was free."""
 
@@ -252,7 +283,10 @@ TESTS = [
     a_connection_that_is_refused,
     no_such_name,
     a_wait_takes_no_processor_time,
+    a_wait_that_is_interrupted_ends_in_time,
     the_deadline_passes_whatever_comes,
+    a_look_up_counts_to_the_deadline,
+    a_look_up_lasts_beyond_the_deadline,
     a_write_of_which_nothing_is_taken_fails,
     two_clients_of_one_loop,
     a_third_client_waits_for_a_place,

@@ -118,7 +118,7 @@ def subprotocols():
 def a_bad_list_before_all_else():
     for names in ("", "chat,chat", "a/b", "chat,"):
         words = ("serve", "--limit", "0", "--timeout", "0", "--protocols", names, "127.0.0.1:1", "1")
-        assert run(*words) == (2, b"", b"bad protocol list\n"), names
+        assert run(*words) == (2, b"", b"bad protocol list\n  up to 16 different names, joined by commas: --protocols chat,echo\n"), names
 
 
 def the_first_line_can_not_be_written():

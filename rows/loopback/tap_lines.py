@@ -121,8 +121,8 @@ def in_512_kib_of_stack():
     million = 1024 * 1024
     text = bytes.fromhex("827f0000000000100000") + bytes(million)
     masked = bytes.fromhex("82ff000000000010000000000000") + bytes(million)
-    short = "00" * 16 + ".."
-    for style, zeros in [("hex", short), ("text", short), ("all", "00" * million)]:
+    quoted = '"' + "\\u0000" * 64 + '"..'
+    for style, zeros in [("hex", "00" * 16 + ".."), ("text", quoted), ("all", "00" * million)]:
         tap = Tap(before=keep_to_512_kib_of_stack, options=(f"--data={style}",))
         client, server = tap.open_pair()
         told = f"> 0 binary fin=1 rsv=0 key=00000000 len=1048576 eight {zeros}"

@@ -93,13 +93,13 @@ def sends_a_fault_and_waits():
 
 
 def closes_first_and_waits():
-    """The first turn is sent to a server that closes at once, and nothing behind it."""
+    """Nothing is sent to a server that closes at once: the own direction is ended."""
     server = Tested("1.1.1")
     client = server.next()
     client.send(RESPONSE, CLOSE_BACK)
-    assert client.rest() == request_to(server.address) + EMPTY_TEXT
+    assert client.rest() == request_to(server.address)
     client.close()
-    server.ends("1.1.1 FAIL Messages\n0 pass, 0 loose, 1 fail\n", status=1)
+    server.ends("1.1.1 FAIL Close\n0 pass, 0 loose, 1 fail\n", status=1)
 
 
 def fails_at_the_first_byte():
@@ -118,12 +118,13 @@ def fails_at_the_first_byte():
 
 
 def unlawful_and_waits():
-    """Nor does one whose frame is masked, whose pong nobody asked for comes where a message is owed, or that goes on
-    behind its close. Only one that owes something keeps the test waiting, and no longer than its limit of time."""
+    """Nor does one whose frame is masked, whose pong nobody asked for comes where a message is owed, that closes with
+    its head, so that nothing is sent, or that goes on behind its close. Only one that owes something keeps the test
+    waiting, and no longer than its limit of time."""
     for sent, verdict in (
         (b"\x81\x80\0\0\0\0", "NotFrames"),
         (b"\x8a\x01q", "Messages"),
-        (CLOSE_BACK, "Messages"),
+        (CLOSE_BACK, "Close"),
         (CLOSE_BACK + EMPTY_BACK, "NotFrames"),
     ):
         server = Tested("--timeout=1", "1.1.1")
@@ -217,9 +218,24 @@ def silent_in_a_frame():
     client.close()
 
 
+def silent_for_ten_seconds_without_a_limit_of_ours():
+    """Without --timeout a wait lasts ten seconds."""
+    server = Tested("1.1.1")
+    client = server.next()
+    client.send(RESPONSE, EMPTY_BACK)
+    sent = request_to(server.address) + EMPTY_TEXT + MASKED_CLOSE
+    assert client.get(len(sent)) == sent
+    begun = time.monotonic()
+    assert not select.select([server.process.stdout], [], [], 9.5)[0]
+    assert server.line() == "1.1.1 FAIL Close"
+    assert time.monotonic() - begun < 15
+    server.ends("0 pass, 0 loose, 1 fail\n", status=1)
+    client.close()
+
+
 def silent_for_more_than_ten_seconds():
     """It is told once that the run waits, and then waited on."""
-    server = Tested("1.1.1", "1.1.1")
+    server = Tested("--timeout=none", "1.1.1", "1.1.1")
     client = server.next()
     asked = request_to(server.address)
     assert client.get(len(asked)) == asked
@@ -421,6 +437,7 @@ TESTS = [
     silent_behind_the_head,
     silent_in_the_last_turn,
     silent_in_a_frame,
+    silent_for_ten_seconds_without_a_limit_of_ours,
     silent_for_more_than_ten_seconds,
     another_message_is_not_waited_behind,
     an_unowed_message_is_not_waited_behind,

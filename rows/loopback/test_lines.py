@@ -139,15 +139,15 @@ def no_listener():
 
 def no_address_to_test():
     for address in NO_ADDRESSES:
-        told = (3, b"1.1.1 no connection\n", b"no connection: no such host\n  no address has this name, or the port is missing: localhost:9001\n")
+        told = (3, b"1.1.1 no connection\n", b"no connection: no such host\n  the name is unknown, or it has no port up to 65535: localhost:9001\n")
         assert run("test", address, "1.1.1") == told, address
 
 
 def no_address_before_other_faults():
     for words, told in (
-        (("--protocols", "", "--timeout", "0", "--key", "x", "a b", "1.1.1"), b"bad protocol list\n"),
+        (("--protocols", "", "--timeout", "0", "--key", "x", "a b", "1.1.1"), b"bad protocol list\n  up to 16 different names, joined by commas: --protocols chat,echo\n"),
         (("--timeout", "02", "--key", "x", "a b", "1.1.1"), b"bad timeout\n  a whole number of seconds, 1 to 3600: --timeout 5\n"),
-        (("--key", "x", "a b", "1.1.1"), b"bad key\n"),
+        (("--key", "x", "a b", "1.1.1"), b"bad key\n  eight lower-case hexadecimal digits: --key 37fa213d\n"),
         (("a b", "0.0.0"), b"bad address\n"),
         (("--capture", "127.0.0.1:1"), b"--capture takes one case\n"),
         (("127.0.0.1:1", "1.1.1", "0.0.0"), b"no such case: 0.0.0\n  wst cases lists them; a star stands for a group: '2.*'\n"),

@@ -43,9 +43,10 @@ def failures_of_rooms(folder, words):
     """A text for each part that is not right."""
     parts = parts_of(log_of(folder, words))
     puts = parts[3 : 3 + 2 * len(PUT) : 2]
-    (_, before), (taken, opened), (ended, after), (later, last), (_, idle), (_, large), (asked, small), (_, forgotten) = parts[-8:]
+    (_, before), (_, opened), (_, after), (later, last), (_, idle), (_, large), (asked, small), (_, forgotten) = parts[-11:-3]
+    (_, fresh), (_, empty), (_, two) = parts[-3:]
     failures = []
-    if len(parts) != 2 + 2 * len(PUT) + 8:
+    if len(parts) != 2 + 2 * len(PUT) + 11:
         failures.append(f"{len(parts)} parts")
     if parts[1][0] != 0:
         failures.append(f"a new session asks for {parts[1][0]}")
@@ -62,4 +63,6 @@ def failures_of_rooms(folder, words):
         failures.append(f"after it ten small ones ask for {asked} and hold {small - idle}")
     if forgotten != idle:
         failures.append(f"a room that was given back holds {forgotten - idle}")
+    if empty != fresh or two != fresh:
+        failures.append(f"between two messages in fragments a session holds {empty - fresh}, {two - fresh}")
     return failures

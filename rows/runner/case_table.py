@@ -1,4 +1,4 @@
-"""The table of cases in `docs/CASES.md`: each line is compared with the case that the program has, and with what is read
+"""The table of cases, `rows/cases/table.txt`: each line is compared with the case that the program has, and with what is read
 from the text that `wst cases ID` writes of it."""
 
 import re
@@ -14,11 +14,9 @@ SECONDS = 60
 def calls_of_table(file, program):
     """Two calls for each line of the table: `case NAME`, which wants that line, and `script TEXT` of the text that the
     program writes, which wants its cut and its steps."""
-    calls, inside = [], False
+    calls = []
     for number, line in enumerate(file.read_text().splitlines(), 1):
-        if line.startswith("```"):
-            inside = not inside
-        elif inside:
+        if not line.startswith("#"):
             calls += calls_of_line(file, number, line, program)
     if not calls:
         raise BadFile(f"{file}: no table of cases")

@@ -12,14 +12,15 @@ use std::time::{Clock, Duration};
 use ws_networks::Network;
 use wst_network::{ConnectMiss, system_network};
 
-/// A network, in which a name with commas has the addresses that these part, in their order. Other names have those
-/// that they have in the network below.
+/// A network, in which a name with commas has the addresses that these part, in their order. A word with `ms` behind
+/// digits is no address: so many milliseconds pass there. Other names have the addresses that they have in the network
+/// below.
 #[derive(Clone, Copy)]
 pub struct ListedNames<'a, N> {
     pub net: &'a N,
 }
 
-impl<N: Net> Net for ListedNames<'_, N> {
+impl<N: Net + Clock> Net for ListedNames<'_, N> {
     type Stream = N::Stream;
 
     type Listener = N::Listener;
@@ -40,12 +41,16 @@ impl<N: Net> Net for ListedNames<'_, N> {
         }
         let mut count = 0;
         for word in host.split(',') {
-            let Ok(address) = word.parse::<IpAddr>() else {
-                return Err(io::Error::from(ErrorKind::InvalidInput));
-            };
-            if count < found.len() {
-                found[count] = SocketAddr::new(address, port);
-                count += 1;
+            if let Some(time) = time_in(word) {
+                let_pass(self.net, time)?;
+            } else {
+                let Ok(address) = word.parse::<IpAddr>() else {
+                    return Err(io::Error::from(ErrorKind::InvalidInput));
+                };
+                if count < found.len() {
+                    found[count] = SocketAddr::new(address, port);
+                    count += 1;
+                }
             }
         }
         Ok(count)
@@ -60,6 +65,27 @@ impl<N: Clock> Clock for ListedNames<'_, N> {
     fn since_1970(&self) -> io::Result<Duration> {
         self.net.since_1970()
     }
+}
+
+/// The time that a word of a name says, if it says one.
+fn time_in(word: &str) -> Option<Duration> {
+    let digits = word.strip_suffix("ms")?;
+    let Ok(time) = digits.parse::<u64>() else {
+        return None;
+    };
+    Some(Duration::from_millis(time))
+}
+
+/// Lets so much time pass.
+fn let_pass<C: Clock>(clock: &C, time: Duration) -> io::Result<()> {
+    let start = clock.monotonic()?;
+    for _ in 0..u64::MAX {
+        let now = clock.monotonic()?;
+        if now.saturating_sub(start) >= time {
+            return Ok(());
+        }
+    }
+    Ok(())
 }
 
 /// `look_up ADDRESS`: the addresses of a name, as the system's network tells them.

@@ -3,7 +3,9 @@
 use crate::tally::Tally;
 use std::alloc::Global;
 use ws_base::NoMemory;
-use ws_suite::{CaptureFault, Transcript, Verdict, judge, read_capture, write_capture};
+use ws_suite::{
+    CaptureFault, Transcript, Verdict, judge, read_capture, read_capture2, write_capture,
+};
 
 /// A capture, and the verdict on it.
 pub struct Capture {
@@ -51,10 +53,11 @@ end peer
     verdict: "PASS",
 };
 
-/// Reads a capture, judges it, and writes it again.
+/// Reads a capture, also as one in either format, judges it, and writes it again.
 pub fn play(alloc: Global, capture: &Capture, tally: &mut Tally) -> Result<(), NoMemory> {
     match read_again(alloc, capture.text.as_bytes(), tally) {
         Ok(transcript) => {
+            read_either(alloc, capture.text.as_bytes(), &transcript, tally)?;
             let verdict = judge_again(alloc, &transcript, tally)?;
             let words = format!(in alloc; "{verdict}")?;
             tally.compare(words.as_str() == capture.verdict);
@@ -74,6 +77,37 @@ fn read_again(alloc: Global, text: &[u8], tally: &mut Tally) -> Result<Transcrip
         Err(CaptureFault::NoMemory) => {
             tally.refuse("read_capture");
             read_capture(alloc, text)
+        }
+        answer => answer,
+    }
+}
+
+/// Reads a capture as one in either format: without a key, and with this transcript.
+fn read_either(
+    alloc: Global,
+    text: &[u8],
+    transcript: &Transcript,
+    tally: &mut Tally,
+) -> Result<(), NoMemory> {
+    match read_either_again(alloc, text, tally) {
+        Ok(capture) => tally.compare(capture.key.is_none() && capture.transcript == *transcript),
+        Err(CaptureFault::NoMemory) => return Err(NoMemory),
+        Err(CaptureFault::Damaged(_)) => tally.compare(false),
+    }
+    Ok(())
+}
+
+/// One such reading, made again where memory runs out.
+fn read_either_again(
+    alloc: Global,
+    text: &[u8],
+    tally: &mut Tally,
+) -> Result<ws_suite::Capture, CaptureFault> {
+    tally.call();
+    match read_capture2(alloc, text) {
+        Err(CaptureFault::NoMemory) => {
+            tally.refuse("read_capture2");
+            read_capture2(alloc, text)
         }
         answer => answer,
     }

@@ -23,7 +23,7 @@ pub enum Part {
     Sends(&'static sending::List),
     /// `run_pair`.
     Pair(&'static Script),
-    /// `read_capture`, `judge` and `write_capture`.
+    /// `read_capture`, `read_capture2`, `judge` and `write_capture`.
     Capture(&'static Capture),
     /// `ids`, `case` and `turns`.
     Scripts,
@@ -89,7 +89,7 @@ impl Part {
             Part::Feed(_) => "feed_all",
             Part::Sends(_) => "begin, more, ping, pong, close",
             Part::Pair(_) => "run_pair",
-            Part::Capture(_) => "read_capture, judge, write_capture",
+            Part::Capture(_) => "read_capture, read_capture2, judge, write_capture",
             Part::Scripts => "ids, case, turns",
             Part::ScriptText => "read_script, write_script",
             Part::EchoRun => "run_case over an echo",

@@ -37,7 +37,8 @@ pub fn play(alloc: Global) -> Result<(), NoMemory> {
         sent_or_not(sent)?;
     }
     take_to_the_end(alloc, limits)?;
-    lend_large_and_small(alloc)
+    lend_large_and_small(alloc)?;
+    lend_fragments(alloc)
 }
 
 /// A session takes a frame that leaves its message open, and then bytes that are none of a text.
@@ -77,6 +78,32 @@ fn lend_large_and_small(alloc: Global) -> Result<(), NoMemory> {
     }
     mark(alloc)?;
     room.forget();
+    mark(alloc)?;
+    Ok(())
+}
+
+/// A session lends a message whose first fragment is empty through a room that served another, and then one whose
+/// fragments come through two such rooms; each time the rooms are given back.
+fn lend_fragments(alloc: Global) -> Result<(), NoMemory> {
+    let Some(limits) = Limits::new(LIMIT) else {
+        return Err(NoMemory);
+    };
+    let mut out = Vec::new(alloc);
+    let mut room = PayloadRoom::new(alloc);
+    let mut other = PayloadRoom::new(alloc);
+    let mut session = Session::new(alloc, Role::Client, limits);
+    mark(alloc)?;
+    let _ = session.take_into(b"\x81\x05hello", NO_KEY, &mut out, &mut room)?;
+    let _ = session.take_into(b"\x01\x00", NO_KEY, &mut out, &mut room)?;
+    let _ = session.take_into(b"\x80\x05hello", NO_KEY, &mut out, &mut room)?;
+    room.forget();
+    mark(alloc)?;
+    let _ = session.take_into(b"\x81\x05hello", NO_KEY, &mut out, &mut room)?;
+    let _ = session.take_into(b"\x81\x05hello", NO_KEY, &mut out, &mut other)?;
+    let _ = session.take_into(b"\x01\x05hello", NO_KEY, &mut out, &mut room)?;
+    let _ = session.take_into(b"\x80\x05hello", NO_KEY, &mut out, &mut other)?;
+    room.forget();
+    other.forget();
     mark(alloc)?;
     Ok(())
 }

@@ -18,7 +18,7 @@ ping 2a*126
 cont rsv=4 key=37fa213d form=eight 20776f726c64
 wait
 raw 8900
-close=1000 \"bye\"
+close=1000 \"b\\u00fcy\\n\"
 close=1001
 ";
 
@@ -30,7 +30,7 @@ ping 2a*126
 raw c0ff000000000000000637fa213d178d4e4f5b9e
 wait
 raw 8900
-close 03e8627965
+close 03e862c3bc790a
 close 03e9
 ";
 

@@ -133,6 +133,7 @@ fn answer_of_verdicts(
         "explain" => explanations::explain_turns(alloc, words, out),
         "written" => captures::write_turns(alloc, words, out),
         "app" => peers::judge_app(alloc, words, out),
+        "app_got" => peers::tell_app(alloc, words, out),
         "verdict" => peers::tell_verdict(alloc, words, out),
         "verdict_client" => peers::tell_client_verdict(alloc, words, out),
         "verdict_of" => peers::tell_script_verdict(alloc, words, out),

@@ -7,10 +7,12 @@ use crate::words::{bytes_of, mask_key_of, role_of};
 use std::alloc::Global;
 use std::fmt::Write;
 use ws_base::NoMemory;
+use ws_formats::Hex;
 use ws_peer::{AppStep, Peer, TungPeer, run_case_with, run_over_app, run_over_echo_as, tester_key};
 use ws_sends::{KeyedSend, read_send};
 use ws_suite::{
-    Case, Chop, Expectation, Step, Verdict, case, ids, judge_end, judge_with, read_script,
+    Case, Chop, Ended, Expectation, Step, Transcript, Verdict, case, ids, judge_end, judge_with,
+    read_script,
 };
 use ws_wire::Role;
 
@@ -182,14 +184,44 @@ pub fn judge_app(alloc: Global, words: &[&str], out: &mut String) -> Result<(), 
         return Err(RowFault::NotARow);
     };
     let tested = role_of(role)?;
+    let transcript = run_of_app(alloc, tested, text, plan)?;
+    let verdict = judge_with(alloc, tested, Expectation::Protocol, &transcript)?;
+    write!(out, "{verdict}")?;
+    Ok(())
+}
+
+/// `app_got ROLE SCRIPT TAKES SENDS ..`: what was got of the same application, turn by turn, and which end ended the
+/// connection.
+pub fn tell_app(alloc: Global, words: &[&str], out: &mut String) -> Result<(), RowFault> {
+    let [role, text, plan @ ..] = words else {
+        return Err(RowFault::NotARow);
+    };
+    let transcript = run_of_app(alloc, role_of(role)?, text, plan)?;
+    for turn in transcript.turns.as_slice() {
+        write!(out, "{}, ", Hex(turn.got.as_slice()))?;
+    }
+    let end = match transcript.ended {
+        Ended::Tester => "tester",
+        Ended::Peer => "peer",
+        Ended::Broken => "broken",
+    };
+    out.push_str(end)?;
+    Ok(())
+}
+
+/// The transcript of a script over a new application with this plan.
+fn run_of_app(
+    alloc: Global,
+    tested: Role,
+    text: &str,
+    plan: &[&str],
+) -> Result<Transcript, RowFault> {
     let text = bytes_of(alloc, text)?;
     let Ok(case) = read_script(alloc, text.as_slice()) else {
         return Err(RowFault::NotARow);
     };
     let transcript = run_over_app(alloc, tested, &case, KEY, plan_of(alloc, plan)?)?;
-    let verdict = judge_with(alloc, tested, Expectation::Protocol, &transcript)?;
-    write!(out, "{verdict}")?;
-    Ok(())
+    Ok(transcript)
 }
 
 /// The steps of an application, two words each.

@@ -6,7 +6,7 @@ use crate::words::{bytes_of, limits_of, role_of, session_key_of};
 use std::alloc::Global;
 use std::fmt::Write;
 use ws_formats::Hex;
-use ws_session::{PayloadRoom, Session, Status};
+use ws_session::{EventKind, PayloadRoom, Session, Status};
 
 /// A session, what it put, how many bytes it has used, and the status that was told last.
 #[derive(Drop)]
@@ -98,6 +98,18 @@ fn take_once<'a>(
     Ok(&piece[taken.used..])
 }
 
+/// Whether a room holds nothing where what is told has no payload.
+fn holds_payload_alone(event: Option<EventKind>, held: &[u8]) -> bool {
+    let has_payload = match event {
+        Some(kind) => !matches!(
+            kind,
+            EventKind::Part | EventKind::Close(None) | EventKind::Failed(_)
+        ),
+        None => false,
+    };
+    has_payload || held.is_empty()
+}
+
 /// The call of `take_into`, which has to use as much, and to tell, put and hold the same. A copy of the session takes
 /// it, so that a copy is seen to go on as what it was made of.
 fn lend_once(
@@ -118,7 +130,8 @@ fn lend_once(
         put_lent(&mut also_told, kind, taker.room.as_slice())?;
         also_told.push_str(", ")?;
     }
-    let same = lent.used == used
+    let same = holds_payload_alone(lent.event, taker.room.as_slice())
+        && lent.used == used
         && also_told.as_bytes() == told.as_bytes()
         && taker.also_put.as_slice() == taker.put.as_slice()
         && taker.lending.held() == taker.session.held()
