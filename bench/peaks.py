@@ -4,8 +4,8 @@
     bench/peaks.py            the program crates/wst/out/wst
     bench/peaks.py PROGRAM    this program
 
-Told is the peak of the resident memory above that over an empty input, in bytes of the input text, for `session` also
-in bytes of its report, beside the most that it may be: over texts of two sizes, of which the larger is just behind a
+Told is the peak of the resident memory above that over an empty input, in bytes of the input text, for `session` as a
+share of what it may be by its input or by its report, beside the most that it may be: over texts of two sizes, of which the larger is just behind a
 doubling of the judge's longest list, the more of both. A program writes first when all is done; as its pipe is full,
 it stands still there, and its peak can be read. Status 1 where a command takes more.
 """
@@ -23,17 +23,23 @@ MOST_OF = {  # times its bytes
     "convert": 2,
     "judge": 4,
     "pair": 2,
-    "send": 22,
+    "send": 29,
     "session": 2,
     "show": 2,
     "test": 30,
 }
 
-MOST_OF_OUTPUT = {"session": 1.25}  # times the bytes that it writes
+# Or so many times the bytes that it writes, if that is more: nothing is written before the last line is read.
+MOST_OF_OUTPUT = {"session": 1.26}
 # Of these more: a reply that was got is told by 4 digits and has a head of 12 bytes, and the room that a list leaves
 # as it grows may stay resident.
 MOST_OF_EMPTY = 4.1
 EMPTY = ("pongs got", "empty texts got", "pings got")
+# What isn't answered in order is sorted in a tree, by its payload; and by the protocol an explanation keeps what is owed
+# beside what is due.
+MOST_OF_UNMATCHED = 8
+MOST_OF_OWED = 7
+MOST_OF_BEHIND = 5
 
 PING, PONG, TEXT = "898000000000", "8a8000000000", "81810000000061"  # of a client; the key is zero
 PING_BACK, PONG_BACK, TEXT_BACK = "8900", "8a00", "810161"  # of a server
@@ -50,6 +56,22 @@ class Many(NamedTuple):
         whole, rest = divmod(int(size * self.share / len(self.text)), at_once)
         for count in [at_once] * whole + [rest]:
             file.write((self.text * count).encode())
+
+
+class Distinct(NamedTuple):
+    """Frames with payloads of so many bytes that all differ, as many as go into this share of an input."""
+
+    head: str
+    payload: int
+    share: float = 1.0
+
+    def put(self, size, file):
+        count = int(size * self.share / (len(self.head) + 2 * self.payload))
+        wrapped = 256**self.payload
+        for start in range(0, count, 50_000):
+            numbers = range(start, min(count, start + 50_000))
+            digits = (f"{i % wrapped:0{2 * self.payload}x}" if self.payload else "" for i in numbers)
+            file.write("".join(self.head + x for x in digits).encode())
 
 
 def capture(*parts):
@@ -89,24 +111,72 @@ FRAMES = {
     "texts and texts": capture("turn\n> ", Many(TEXT, 0.7), "\n< ", Many(TEXT_BACK, 0.3), "\n"),
 }
 
+
+
+def of_ends(key, sent, got):
+    """Captures of one turn, of many small frames of each size, where the heads of both sides are made so."""
+    inputs = {}
+    for size in (0, 1, 3, 4):
+        for name, first in (("pings", "89"), ("pongs", "8a"), ("texts", "81"), ("fragments", "01")):
+            for side, mark, head in (("sent", ">", sent), ("got", "<", got)):
+                last = head("80", 0) if name == "fragments" else ""
+                frames = Many(head(first, size) + "61" * size + last)
+                if name in ("pings", "pongs"):
+                    frames = Distinct(head(first, size), size)
+                inputs[f"{name} of {size} {side}"] = ended(key, "turn\n" + mark + " ", frames, "\n")
+    for size in (3, 4):
+        pings = Distinct(sent("89", size), size)
+        inputs[f"pings of {size} sent, a pong of none"] = ended(
+            key, "turn\n> ", pings, "\nturn\n< " + got("8a", 1) + "61\n"
+        )
+        pongs = Distinct(got("8a", size), size)
+        inputs[f"pongs of {size} got, for no ping"] = ended(key, "turn\n> " + sent("89", 1) + "61\n< ", pongs, "\n")
+    for size in (0, 4):
+        closes = "turn\n> " + sent("88", 2) + "03e8\n< " + got("88", 2) + "03e8"
+        inputs[f"pongs of {size} behind a close"] = ended(key, closes, Distinct(got("8a", size), size), "\n")
+    return inputs
+
+
+def ended(key, *parts):
+    return [f"wst-capture 2\nkey {key}\n", *parts, "end tester\n"]
+
+
+def masked(first, size):
+    return f"{first}{128 + size:02x}00000000"
+
+
+def plain(first, size):
+    return f"{first}{size:02x}"
+
+
+def taken(head, key):
+    """Scripts of a session that takes many small frames of each size, all in one line or a line each."""
+    inputs = {}
+    for size in (0, 1, 3, 4, 125):
+        for name, first in (("pings", "89"), ("pongs", "8a"), ("texts", "81"), ("fragments", "01")):
+            frame = head(first, size) + "61" * size + (head("80", 0) if name == "fragments" else "")
+            inputs[f"{name} of {size} in a line"] = ["take ", Many(frame), f" {key}\n"]
+            inputs[f"a line for each of {name} of {size}"] = [Many(f"take {frame} {key}\n")]
+    return inputs
+
+
+OF_SERVERS = of_ends("00000000", masked, plain)
+OF_CLIENTS = of_ends("-", plain, masked)
+
 # What is run: its words, its empty input, and the inputs with their names.
 RUNS = [
     (["show", "--capture"], capture(), TURNS | FRAMES),
     (["judge", "--explain"], capture(), TURNS | FRAMES),
     (["judge"], capture(), TURNS | FRAMES),
     *(
-        (
-            ["session", "--role", "server", *echo],
-            [],
-            {
-                "pings in a line": ["take ", Many(PING), " -\n"],
-                "pongs in a line": ["take ", Many(PONG), " -\n"],
-                "texts in a line": ["take ", Many(TEXT), " -\n"],
-                "a line for each ping": [Many(f"take {PING} -\n")],
-                "a line for each pong": [Many(f"take {PONG} -\n")],
-                "a line for each text": [Many(f"take {TEXT} -\n")],
-            },
-        )
+        (["judge", *role, *expected, *explains], capture(), inputs)
+        for role, inputs in (([], OF_SERVERS), (["--role", "client"], OF_CLIENTS))
+        for expected in ([], ["--expect", "protocol"])
+        for explains in ([], ["--explain"])
+    ),
+    *(
+        (["session", "--role", role, *echo], [], inputs)
+        for role, inputs in (("server", taken(masked, "-")), ("client", taken(plain, "00000000")))
         for echo in ([], ["--echo"])
     ),
     (
@@ -137,7 +207,12 @@ RUNS = [
         (
             ["send", *as_capture, "own"],
             [],
-            {"texts": [Many('text "a"\n')], "pings": [Many("ping -\n")], "turns": [Many("ping -\nwait\n")]},
+            {
+                "texts": [Many('text "a"\n')],
+                "pings": [Many("ping -\n")],
+                "turns": [Many("ping -\nwait\n")],
+                "waits": [Many("wait\n")],
+            },
         )
         for as_capture in ([], ["--capture"])
     ),
@@ -152,14 +227,26 @@ def tell_peaks(program):
         least, _ = peak([program, *words], empty)
         for name, parts in inputs.items():
             peaks = [peak([program, *words], parts, size) for size in SIZES]
-            times = max((held - least) / length for held, length in peaks)
-            most = MOST_OF_EMPTY if words[0] == "judge" and name in EMPTY else MOST_OF[words[0]]
-            wrong += tells_more(times, most, words, name)
             if words[0] in MOST_OF_OUTPUT:
                 written = [size_written([program, *words], parts, size) for size in SIZES]
-                times = max((held - least) / length for (held, _), length in zip(peaks, written))
-                wrong += tells_more(times, MOST_OF_OUTPUT[words[0]], words, f"{name}, of the report")
+                most = [max(MOST_OF[words[0]] * x, MOST_OF_OUTPUT[words[0]] * y) for (_, x), y in zip(peaks, written)]
+                share = max((held - least) / room for (held, _), room in zip(peaks, most))
+                wrong += tells_more(share, 1, words, name)
+                continue
+            times = max((held - least) / length for held, length in peaks)
+            most = most_of_judge(words, name) if words[0] == "judge" else MOST_OF[words[0]]
+            wrong += tells_more(times, most, words, name)
     return wrong
+
+
+def most_of_judge(words, name):
+    if name.endswith((" of none", " no ping")):
+        return MOST_OF_UNMATCHED
+    if "protocol" in words and name.endswith("behind a close"):
+        return MOST_OF_BEHIND
+    if {"protocol", "--explain"} <= set(words) and name.startswith("pings") and name.endswith("sent"):
+        return MOST_OF_OWED
+    return MOST_OF_EMPTY if name in EMPTY or " of 0 " in name else MOST_OF["judge"]
 
 
 def tells_more(times, most, words, name):
@@ -196,7 +283,7 @@ def size_written(words, parts, size):
 
 def put_parts(parts, size, file):
     for part in parts:
-        if isinstance(part, Many):
+        if isinstance(part, (Many, Distinct)):
             part.put(size, file)
         else:
             file.write(part.encode())

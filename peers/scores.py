@@ -20,7 +20,7 @@ Applications don't echo: each greets, sends a ping, and answers messages with ot
 `{protocol}`.
 
 A FAIL breaks a rule of RFC 6455 or, at an echo, one of ours; its sentence says which. A LOOSE is no violation: the \
-RFC allows it, or what was received can't decide it. If a peer closes its socket with bytes unread (single bytes, or a \
+RFC allows it, or what was received is inconclusive. If a peer closes its socket with bytes unread (single bytes, or a \
 ping behind a close, as in 7.1.6), the reset can lose what it had sent: PASS in one run, LOOSE or FAIL in the next. `A \
 to B` means all cases from A to B, in the order of `wst cases`. The longest case is the one whose line took longest to \
 appear.
