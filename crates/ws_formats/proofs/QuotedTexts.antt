@@ -1,16 +1,19 @@
 -- A text between quotation marks: plain bytes are the characters that they spell, and characters are put one by one.
-use Rattle.std.proofs.Common.{◌≡◌, ◌∙◌, ℕ, zero, suc, ◌+◌, ◌<◌, ◌≤◌, Bool, true, false, List, [], ◌∷◌, ◌++◌, length, take}
-use Rattle.std.proofs.Common.{arith, refl, sym, ap, ap₂, codes, append_assoc, append-nil, Option, nat_lt}
-use Rattle.std.specs.Prelude.{◌&&◌, ◌||◌, ◌==◌, if◌then◌else◌, nat_le, not, is_some}
+use Rattle.std.proofs.Common.{◌≡◌, ◌∙◌, ℕ, zero, suc, ◌+◌, ◌<◌, ◌≤◌, Bool, true, false}
+use Rattle.std.proofs.Common.{List, [], ◌∷◌, ◌++◌, length, take, drop, get_or}
+use Rattle.std.proofs.Common.{arith, refl, sym, ap, ap₂, subst, codes, append_assoc, append-nil, nat_lt}
+use Rattle.std.specs.Prelude.{◌&&◌, ◌||◌, ◌==◌, if◌then◌else◌, nat_le, not}
 use Rattle.std.specs.Char.{encode_utf8, is_control}
 use lib.Utf8.{scalar}
 use Rattle.std.specs.Int.{is_in_range}
-use Rattle.std.specs.List.{flat_map, list_all, slice_get}
-use Rattle.std.specs.Str.{IsAscii, IsUtf8, all_scalars, chars, is_utf8}
+use Rattle.std.specs.List.{flat_map, list_all}
+use Rattle.std.specs.Str.{IsAscii, IsCharBoundary, IsUtf8, all_scalars, chars, is_utf8}
 use Rattle.std.proofs.lemmas.Bool.{leb-true}
 use Rattle.std.proofs.lemmas.Bool.Decides.{nat_tests}
 use Rattle.std.proofs.lemmas.Grind.{flat_map-append}
-use Rattle.std.proofs.lemmas.List.{length-append, nil_from_length, take_at, take_all}
+use Rattle.std.proofs.lemmas.List.Folds.{list_all_more}
+use Rattle.std.proofs.lemmas.List.{length-append, length-take-le, nil_from_length, take_at, take_all}
+use Rattle.std.proofs.lemmas.Str.{IsCharBoundary-after_ascii, IsCharBoundary-start}
 use Rattle.std.proofs.lemmas.Str.{IsUtf8-from_ascii, IsUtf8-from_is_utf8, chars-encodes, chars-nil, cons_from_encodes}
 use Rattle.std.proofs.lemmas.Str.{encode_ascii, is_utf8-from_IsUtf8}
 use Rattle.ws_formats.specs.QuotedText.{quoted_end, escape_of, is_escaped, is_invisible, is_shown_plainly, quoted_word}
@@ -109,7 +112,8 @@ shown_front (suc n) (byte ∷ bytes) all =
     )
 
 -- the first of plain bytes are plain, and all are UTF-8
-pub front_is_plain : (n : ℕ) (bytes : List ℕ) → list_all is_shown_plainly bytes ≡ true → list_all is_shown_plainly (take n bytes) ≡ true
+pub front_is_plain : (n : ℕ) (bytes : List ℕ) → list_all is_shown_plainly bytes ≡ true
+    → list_all is_shown_plainly (take n bytes) ≡ true
 front_is_plain zero bytes all = refl
 front_is_plain (suc n) [] all = refl
 front_is_plain (suc n) (byte ∷ bytes) all =
@@ -192,6 +196,63 @@ one_more_shown text rest left before mid after count c s utf8 parts put =
           ∙ ap (λ (l : List ℕ). before ++ l) (sym (flat_map-append shown_character s.done (c ∷ [])));
     }
 
+-- plain bytes are the characters that they spell, and are shown as they are
+run_of_plain : (n : ℕ) (bytes : List ℕ) → list_all is_shown_plainly (take n bytes) ≡ true
+    → (flat_map shown_character (take n bytes) ≡ take n bytes) × (chars bytes ≡ take n bytes ++ chars (drop n bytes))
+run_of_plain zero bytes all = (refl, refl)
+run_of_plain (suc n) [] all = (refl, refl)
+run_of_plain (suc n) (byte ∷ bytes) all =
+    let (here, more) = both_true (is_shown_plainly byte) (list_all is_shown_plainly (take n bytes)) all in
+    let (shown, parts) = run_of_plain n bytes more in (
+      ap₂ (λ (a b : List ℕ). a ++ b) (plain_is_shown byte here) shown,
+      chars_step byte bytes (plain_is_small byte here) ∙ ap (λ (l : List ℕ). byte ∷ l) parts,
+    )
+
+run_put : (text left rest before mid after : List ℕ) (count n : ℕ) → AreShown text left before mid count
+    → n ≤ length left → list_all is_shown_plainly (take n left) ≡ true → rest ≡ drop n left
+    → after ≡ mid ++ take n left → AreShown text rest before after (count + n)
+run_put text left rest before mid after count n s within all is put =
+    let (shown, parts) = run_of_plain n left all in
+    record {
+      done = s.done ++ take n left;
+      parts = s.parts ∙ ap (λ (l : List ℕ). s.done ++ l) (parts ∙ ap (λ (l : List ℕ). take n left ++ chars l) (sym is))
+          ∙ sym (append_assoc s.done (take n left) (chars rest));
+      len = length-append s.done (take n left) ∙ ap₂ (λ (a b : ℕ). a + b) s.len (length-take-le n left within);
+      put = put ∙ ap (λ (l : List ℕ). l ++ take n left) s.put
+          ∙ append_assoc before (flat_map shown_character s.done) (take n left)
+          ∙ ap (λ (l : List ℕ). before ++ (flat_map shown_character s.done ++ l)) (sym shown)
+          ∙ ap (λ (l : List ℕ). before ++ l) (sym (flat_map-append shown_character s.done (take n left)));
+    }
+
+-- the same, where the bytes are those of what is left
+pub run_shown : (text left bytes rest before mid after : List ℕ) (count n : ℕ) → AreShown text left before mid count
+    → bytes ≡ left → n ≤ length bytes → list_all is_shown_plainly (take n bytes) ≡ true → rest ≡ drop n left
+    → after ≡ mid ++ take n bytes → AreShown text rest before after (count + n)
+run_shown text left bytes rest before mid after count n s same within all is put =
+    run_put text left rest before mid after count n s (subst (λ (l : List ℕ). n ≤ length l) same within)
+    (ap (λ (l : List ℕ). list_all is_shown_plainly (take n l)) (sym same) ∙ all) is
+    (put ∙ ap (λ (l : List ℕ). mid ++ take n l) same)
+
+-- a text may be cut behind plain bytes
+behind_plain : (n : ℕ) (bytes : List ℕ) → IsUtf8 bytes → n ≤ length bytes
+    → list_all is_shown_plainly (take n bytes) ≡ true → IsCharBoundary bytes n
+behind_plain zero bytes utf8 within all = IsCharBoundary-start bytes utf8
+behind_plain (suc n) bytes utf8 within all =
+    let next : n + 1 ≡ suc n = omega arith in
+    let last : list_all is_shown_plainly (take (n + 1) bytes) ≡ true =
+    ap (λ (k : ℕ). list_all is_shown_plainly (take k bytes)) next ∙ all in
+    let (before, here) = both_true (list_all is_shown_plainly (take n bytes)) (is_shown_plainly (get_or bytes n 0))
+    (sym (list_all_more is_shown_plainly bytes n 0 (omega (arith, within))) ∙ last) in
+    subst (IsCharBoundary bytes) next
+    (IsCharBoundary-after_ascii bytes n utf8 (omega (arith, within)) (plain_is_small (get_or bytes n 0) here))
+
+-- the same, where the bytes are those of the text
+pub cut_behind_plain : (n : ℕ) (bytes left : List ℕ) → IsUtf8 left → bytes ≡ left → n ≤ length bytes
+    → list_all is_shown_plainly (take n bytes) ≡ true → IsCharBoundary left n
+cut_behind_plain n bytes left utf8 same within all =
+    behind_plain n left utf8 (subst (λ (l : List ℕ). n ≤ length l) same within)
+    (ap (λ (l : List ℕ). list_all is_shown_plainly (take n l)) (sym same) ∙ all)
+
 -- with the end all is put, where the first of these are those so far
 all_shown : (text line before mid after done left : List ℕ) (more : Bool) → before ≡ line ++ codes "\""
     → chars text ≡ done ++ left → mid ≡ before ++ flat_map shown_character done → after ≡ mid ++ quoted_end more
@@ -203,7 +264,8 @@ all_shown text line before mid after done left more begun parts put end front co
     end ∙ ap (λ (l : List ℕ). l ++ quoted_end more) (put ∙ ap (λ (l : List ℕ). l ++ shown) begun)
     ∙ append_assoc (line ++ codes "\"") shown (quoted_end more)
     ∙ append_assoc line (codes "\"") (shown ++ quoted_end more)
-    ∙ ap₂ (λ (l : List ℕ) (b : Bool). line ++ (codes "\"" ++ (flat_map shown_character l ++ quoted_end b))) (sym front) count
+    ∙ ap₂ (λ (l : List ℕ) (b : Bool). line ++ (codes "\"" ++ (flat_map shown_character l ++ quoted_end b)))
+    (sym front) count
     ∙ ap (λ (l : List ℕ). line ++ quoted_word l) (sym parts)
 
 -- fewer characters than are shown at most
@@ -216,18 +278,23 @@ few_shown text rest line before mid after count begun s few none end =
     all_shown text line before mid after s.done [] false begun (s.parts ∙ ap (λ (l : List ℕ). s.done ++ l) nothing)
     s.put end (take_all 64 (s.done ++ []) size ∙ append-nil s.done) (grind (size, arith, nat_tests))
 
--- as many as are shown at most, and perhaps more
-pub most_are_shown : (text rest line before mid after : List ℕ) (r : Option ℕ) (count : ℕ) → count ≡ 64
-    → before ≡ line ++ codes "\"" → AreShown text rest before mid count → r ≡ slice_get (chars rest) 0
-    → after ≡ mid ++ quoted_end (is_some r) → after ≡ line ++ quoted_word (chars text)
-most_are_shown text rest line before mid after r count whole begun s first end =
-    by (chars rest) s.parts first
+-- a character is left where a byte is
+some_left : (rest : List ℕ) → IsUtf8 rest → not (length rest == 0) ≡ nat_lt 0 (length (chars rest))
+some_left [] utf8 = sym (ap (λ (l : List ℕ). nat_lt 0 (length l)) chars-nil)
+some_left (byte ∷ bytes) ([], (scalars, spelled)) = absurd cc
+some_left (byte ∷ bytes) (c ∷ cs, (scalars, spelled)) =
+    is_some (length bytes) ∙ sym (ap (λ (l : List ℕ). nat_lt 0 (length l))
+    (ap chars (sym spelled) ∙ chars-encodes (c ∷ cs) scalars) ∙ some_follow (length cs))
   where
-    by : (left : List ℕ) → chars text ≡ s.done ++ left → r ≡ slice_get left 0
-        → after ≡ line ++ quoted_word (chars text)
-    by [] parts first = all_shown text line before mid after s.done [] (is_some r) begun parts s.put end
-        (take_at s.done [] 64 (s.len ∙ whole))
-        (ap is_some first ∙ grind (length-append s.done [], s.len, whole, arith, nat_tests))
-    by (c ∷ left) parts first = all_shown text line before mid after s.done (c ∷ left) (is_some r) begun parts s.put end
-        (take_at s.done (c ∷ left) 64 (s.len ∙ whole))
-        (ap is_some first ∙ grind (length-append s.done (c ∷ left), s.len, whole, arith, nat_tests))
+    is_some : (n : ℕ) → not (suc n == 0) ≡ true
+    is_some n = grind (arith, nat_tests)
+
+-- as many as are shown at most, and perhaps more
+pub most_are_shown : (text rest line before mid after : List ℕ) (none : Bool) (count : ℕ) → count ≡ 64
+    → before ≡ line ++ codes "\"" → AreShown text rest before mid count → IsUtf8 rest → none ≡ (length rest == 0)
+    → after ≡ mid ++ quoted_end (not none) → after ≡ line ++ quoted_word (chars text)
+most_are_shown text rest line before mid after none count whole begun s utf8 is end =
+    let some : nat_lt 0 (length (chars rest)) ≡ nat_lt 64 (length (s.done ++ chars rest)) =
+    grind (length-append s.done (chars rest), s.len, whole, arith, nat_tests) in
+    all_shown text line before mid after s.done (chars rest) (not none) begun s.parts s.put end
+    (take_at s.done (chars rest) 64 (s.len ∙ whole)) (ap not is ∙ some_left rest utf8 ∙ some)

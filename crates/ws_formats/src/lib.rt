@@ -23,6 +23,6 @@ pub use hexadecimal::{
 };
 pub use lines::{Line, PartialText, cut_line, read_by_lines, read_lines};
 pub use numbers::{read_u16, read_u32};
-pub use quoting::put_text;
+pub use quoting::{is_invisible, put_text};
 pub use showing_hex::{Hex, HexDigits};
 pub use words::{read_fin, words_of};

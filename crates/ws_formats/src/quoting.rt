@@ -1,6 +1,6 @@
 //! Text between quotation marks, with what can't be seen escaped as JSON does it (RFC 8259 section 7).
 
-ghost use Rattle.std.specs.Prelude.{◌≡◌, ◌++◌, IfOk, OnOk, take, true};
+ghost use Rattle.std.specs.Prelude.{◌≡◌, ◌<◌, ◌≤◌, ◌++◌, IfOk, OnOk, false, length, slice_index, take, true};
 ghost use Rattle.std.specs.Char.Escape.{encode_utf16};
 ghost use Rattle.std.specs.List.{flat_map, list_all};
 ghost use Rattle.std.specs.Str.{chars, is_utf8};
@@ -76,21 +76,45 @@ fn put_plain(bytes: &[u8], line: &mut Vec<u8>) -> Result<(), NoMemory>
     put_end(bytes.len() > SHOWN, line)
 }
 
-/// Puts any text, one character after the other.
+/// Puts any text: plain bytes in one copy, and what stands between two runs of these one character after the other.
 fn put_characters(text: &str, line: &mut Vec<u8>) -> Result<(), NoMemory>
     ensures { OnOk result (line.new.items ≡ line.old.items ++ quoted_word (chars text.now)) }
 {
     line.extend_from_slice(b"\"")?;
-    let mut left = text.chars();
+    let mut left = text;
     let mut count = 0;
     while count < SHOWN {
-        let Some(character) = left.next() else {
-            return put_end(false, line);
-        };
-        put_character(character, line)?;
+        let bytes = left.as_bytes();
+        let run = plain_len(bytes, SHOWN - count);
+        line.extend_from_slice(&bytes[..run])?;
+        left = &left[run..];
+        count += run;
+        if count < SHOWN {
+            let mut others = left.chars();
+            let Some(character) = others.next() else {
+                return put_end(false, line);
+            };
+            put_character(character, line)?;
+            left = others.as_str();
+            count += 1;
+        }
+    }
+    put_end(!left.is_empty(), line)
+}
+
+/// How many bytes at the front are shown as they are, up to so many.
+fn plain_len(bytes: &[u8], most: usize) -> usize
+    ensures few { result ≤ most }
+    ensures within { result ≤ length bytes.now }
+    ensures plain { list_all is_shown_plainly (take result bytes.now) ≡ true }
+    ensures all { result < most → result < length bytes.now
+        → is_shown_plainly (slice_index bytes.now result) ≡ false }
+{
+    let mut count = 0;
+    while count < most && count < bytes.len() && is_shown_plainly(bytes[count]) {
         count += 1;
     }
-    put_end(left.next().is_some(), line)
+    count
 }
 
 /// Puts the second mark, and two dots where more characters follow.
@@ -126,7 +150,7 @@ fn is_escaped(character: char) -> bool
 }
 
 /// Whether it has no shape of its own, or turns the order in which others are shown.
-fn is_invisible(character: char) -> bool
+pub fn is_invisible(character: char) -> bool
     ensures { result ≡ is_invisible character }
 {
     matches!(
