@@ -1,22 +1,17 @@
 //! The calls of a script at an echo, one after the other.
 
-ghost use Rattle.std.specs.Prelude.{◌≡◌, ◌++◌, List, IfOk, MatchResult, OnOk, string_bytes};
-ghost use Rattle.ws_base.specs.declared.text_fault.LineFault.TheVariants.{Damaged};
-ghost use Rattle.ws_formats.specs.Lines.{Damages};
-ghost use Rattle.ws_session.specs.declared.event.PlacedEvent.{PlacedEvent};
+ghost use Rattle.std.specs.Prelude.{List, IfOk, OnOk, string_bytes};
 ghost use Rattle.ws_session.specs.Exchange.{Exchange};
 ghost use Rattle.ws_session.specs.Limits.{LimitsValue};
 ghost use Rattle.ws_wire.specs.declared.role.Role.{Role};
 ghost use Rattle.ws_calls.specs.declared.calling.Caller.{Caller};
 ghost use Rattle.ws_session.specs.declared.echo.Echo.{Echo};
-ghost use Rattle.ws_session.specs.Replies.{echo_reply_to};
 ghost use Rattle.ws_calls.specs.declared.calls.Call.TheVariants.{Take};
 ghost use Rattle.ws_calls.specs.declared.calls.EchoCall.{EchoCall};
-ghost use Rattle.ws_calls.specs.CallLines.{last_lines};
 ghost use Rattle.ws_calls.specs.Calls.{echo_of};
 ghost use Rattle.ws_calls.specs.InnerSteps.{Agrees, HasToldCall};
-ghost use Rattle.ws_calls.specs.Runs.{HasCalledEcho, IsNewEcho, ReportsEcho, TellsEcho};
-ghost use Rattle.ws_calls.specs.Script.{AreEchoCallLines, IsEchoCallLine, as_call};
+ghost use Rattle.ws_calls.specs.Runs.{HasCalledEcho, IsNewEcho, ReportsEcho};
+ghost use Rattle.ws_calls.specs.Script.{IsEchoCallLine, as_call};
 ghost use Rattle.ws_text_feed.specs.Taking.{TakesValue};
 
 use crate::calling::Caller;
@@ -26,7 +21,6 @@ use crate::report_lines::{tell_ended, tell_last};
 use crate::taking_words::{keep_piece, take_words};
 use std::alloc::Global;
 use ws_base::{LineFault, NoMemory};
-use ws_session::laws::{one_list_of_events, replies_go_on};
 use ws_session::{Echo, Limits};
 use ws_text_feed::TakeValues;
 use ws_wire::Role;

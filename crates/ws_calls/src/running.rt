@@ -1,24 +1,20 @@
 //! The calls of a script at a session, one after the other.
 
-ghost use Rattle.std.specs.Prelude.{◌≡◌, ◌++◌, List, IfOk, MatchResult, OnOk};
+ghost use Rattle.std.specs.Prelude.{◌≡◌, ◌++◌, List, IfOk, OnOk};
 ghost use Rattle.std.specs.Prelude.{string_bytes};
-ghost use Rattle.ws_base.specs.declared.text_fault.LineFault.TheVariants.{Damaged};
-ghost use Rattle.ws_formats.specs.Lines.{Damages};
-ghost use Rattle.ws_session.specs.declared.event.PlacedEvent.{PlacedEvent};
 ghost use Rattle.ws_session.specs.Exchange.{Exchange};
 ghost use Rattle.ws_session.specs.Limits.{LimitsValue};
 ghost use Rattle.ws_wire.specs.declared.role.Role.{Role};
 ghost use Rattle.ws_calls.specs.declared.calling.Caller.{Caller};
 ghost use Rattle.ws_session.specs.declared.session.Session.{Session};
-ghost use Rattle.ws_session.specs.Replies.{reply_to};
 ghost use Rattle.ws_session.specs.Sends.{send_of};
 ghost use Rattle.ws_calls.specs.declared.calls.Call.{Call};
-ghost use Rattle.ws_calls.specs.CallLines.{answer_lines, last_lines};
+ghost use Rattle.ws_calls.specs.CallLines.{answer_lines};
 ghost use Rattle.ws_calls.specs.Calls.{session_of};
 ghost use Rattle.ws_calls.specs.InnerSteps.{Agrees, HasToldCall, HasToldSend, IsSendRefusal};
 ghost use Rattle.ws_calls.specs.InnerSteps.{send_answer};
-ghost use Rattle.ws_calls.specs.Runs.{HasCalledSession, IsNewSession, ReportsSession, TellsSession};
-ghost use Rattle.ws_calls.specs.Script.{AreCallLines, IsCallLine};
+ghost use Rattle.ws_calls.specs.Runs.{HasCalledSession, IsNewSession, ReportsSession};
+ghost use Rattle.ws_calls.specs.Script.{IsCallLine};
 ghost use Rattle.ws_text_feed.specs.Taking.{TakesValue};
 
 use crate::calling::Caller;
@@ -28,7 +24,6 @@ use crate::script::read_call;
 use crate::taking_words::{keep_piece, take_words};
 use std::alloc::Global;
 use ws_base::{LineFault, NoMemory};
-use ws_session::laws::{one_list_of_events, replies_go_on};
 use ws_session::{Limits, Outgoing, SendFault, Session};
 use ws_text_feed::TakeValues;
 use ws_wire::Role;

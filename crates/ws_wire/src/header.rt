@@ -128,6 +128,7 @@ impl Model for Header {
 impl Header {
     /// The header with these fields. `rsv` is 4 * RSV1 + 2 * RSV2 + RSV3. `None` where it is above
     /// 7, the opcode above 15, or the length more than the form can hold.
+    #[inline(always)]
     pub fn new(
         fin: bool,
         rsv: u8,

@@ -222,7 +222,7 @@ impl Assembly {
 }
 
 /// The same as `append_masked`. Where nothing is kept yet, the memory that the room has for a message serves these
-/// bytes.
+/// bytes, if there is one.
 #[inline(always)]
 fn append_in_room(
     kept: &mut Vec<u8>,
@@ -238,7 +238,7 @@ fn append_in_room(
     ensures wants { OnErr result (0 < length bytes.now) }
     ensures nothing { room.new ≡ None }
 {
-    if kept.is_empty() {
+    if kept.is_empty() && !bytes.is_empty() {
         room.lend(kept);
     }
     append_masked(kept, phase, key, bytes)?;
