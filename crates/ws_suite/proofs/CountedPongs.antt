@@ -1,10 +1,10 @@
 -- The pongs that count: those before the close that was got, and the right ones behind it.
-use Rattle.std.proofs.Common.{◌≡◌, ◌∙◌, ◌&&◌, ℕ, Bor, List, ◌++◌, ap, ap₂, nat_le, subst, sym, true}
+use Rattle.std.proofs.Common.{◌≡◌, ◌∙◌, ◌&&◌, List, ◌++◌, ap, ap₂, nat_le, subst, sym, true}
 use Rattle.std.proofs.lemmas.List.Elements.{filter-append}
-use Rattle.std.specs.BTreeMap.{BTreeMap}
 use Rattle.ws_suite.specs.declared.evidence.InTurn.{InTurn}
 use Rattle.ws_suite.specs.declared.evidence.Reply.{Reply}
 use Rattle.ws_suite.specs.declared.evidence.marks.MarkedEvidence.{MarkedEvidence}
+use Rattle.ws_suite.specs.declared.judging.noted.Noted.{Noted}
 use Rattle.ws_suite.specs.InnerJudging.{answers_among}
 use Rattle.ws_suite.specs.InnerMarks.{AreLastTurns, AreMet, counted_of, is_answered_by}
 use Rattle.ws_suite.specs.Matching.{due_pongs, got_pongs, has_payload_of, is_pong, pong_replies}
@@ -18,7 +18,7 @@ counted_pongs m =
     ∙ sym (filter-append (λ x. is_pong x.what) (answers_among m.evidence.got.replies) m.behind)
 
 -- the last turns of both are those of all
-pub counted_turns : (m : MarkedEvidence) (before behind : List (InTurn Reply)) (turns : BTreeMap (Bor (List ℕ)) ℕ)
+pub counted_turns : (m : MarkedEvidence) (before behind : List (InTurn Reply)) (turns : Noted)
     → before ≡ pong_replies m.evidence.got.replies → behind ≡ pong_replies m.behind
     → AreLastTurns (before ++ behind) turns → AreLastTurns (got_pongs (counted_of m)) turns
 counted_turns m before behind turns is are last =

@@ -1,9 +1,9 @@
 -- Evidence that grows: what is kept of the replies, and the turns with one turn or one piece more.
 use Rattle.std.proofs.Common.{◌≡◌, ◌∙◌, ℕ, ◌+◌, ◌-◌, ◌^◌, ◌<◌, ◌≤◌, ◌↔◌, min, Bool, true, false, if◌then◌else◌, List, [], ◌∷◌, ◌++◌, get_or, length, take, Option, None, Some, inl, inr, ap, sym, refl, subst, arith, append_assoc, append-nil, length-append, ◌⊎◌}
 use Rattle.std.proofs.lemmas.Bool.{cases_lt}
-use Rattle.std.proofs.lemmas.List.{map-append, take_more}
+use Rattle.std.proofs.lemmas.List.{length-map, map-append, take_more}
 use Rattle.std.proofs.lemmas.List.Elements.{filter-append}
-use Rattle.std.specs.List.{filter, last_or}
+use Rattle.std.specs.List.{AllByRecursion, filter, last_or}
 use Rattle.ws_wire.specs.declared.role.Role.{Role}
 use Rattle.ws_session.specs.Exchange.{SessionValue}
 use Rattle.ws_scripts.specs.declared.transcript.Turn.{Turn}
@@ -17,13 +17,16 @@ use Rattle.ws_suite.specs.declared.evidence.keeping.ReplyTally.{ReplyTally}
 use Rattle.ws_suite.specs.declared.evidence.keeping.RunReplies.{RunReplies}
 use Rattle.ws_suite.specs.declared.evidence.pairing.Pairing.{Pairing}
 use Rattle.ws_suite.specs.Evidence.{IsEvidenceOf, by_turn, due_for, got_in, got_turns, other_role, sent_turns}
-use Rattle.ws_suite.specs.Growing.{AnswersTally, AreKeptSince, AreTurnsAnswered, EndInsideFrame, GrowingValue, HasGrown, HasTakenTurns, IsAmong, IsAnswered, IsAnsweredPong, IsTallyOf, new_turn, turn_with_got, turn_with_sent}
+use Rattle.ws_suite.specs.Growing.{AnswersTally, AreKeptSince, AreTurnsAnswered, EndInsideFrame, GrowingValue, HasGrown, HasTakenTurns, IsAnswered, IsAnsweredPong, IsTallyOf, new_turn, turn_with_got, turn_with_sent}
+use Rattle.ws_suite.specs.LastPings.{AreOfTurn, IsLastPingOf}
+use Rattle.ws_suite.specs.declared.evidence.last_ping.LastPing.{LastPing}
 use Rattle.ws_session.specs.declared.event.Event.{Event}
 use Rattle.ws_suite.specs.InnerCollecting.{EventLaws}
 use Rattle.ws_suite.specs.Matching.{IsLastPong, is_message, is_pong, message_replies, pong_replies}
 use Rattle.ws_suite.specs.Pairings.{IsPairingOf}
 use Rattle.ws_suite.proofs.EvidenceLemmas.{last_joined}
 use Rattle.ws_suite.proofs.JudgeLemmas.{last_same, last_turns}
+use Rattle.ws_suite.proofs.LastPingLemmas.{all_handed_on, fresh_in_turn}
 use Rattle.ws_suite.proofs.OneVerdict.{one_evidence}
 use Rattle.ws_suite.proofs.TurnsCollected.{turn_begun}
 
@@ -40,63 +43,20 @@ one_left test r e = ap (λ (b : Bool). if b then r ∷ [] else []) e
 none_left : (test : InTurn Reply → Bool) (r : InTurn Reply) → test r ≡ false → filter test (r ∷ []) ≡ []
 none_left test r e = ap (λ (b : Bool). if b then r ∷ [] else []) e
 
--- ---- a pong that is among others
-
--- with one pong more it stays there
-among_more : (o : Option (InTurn Reply)) (gots : List (InTurn Reply)) (r : InTurn Reply) → IsAmong o gots
-    → IsAmong o (gots ++ r ∷ [])
-among_more None gots r h = tt
-among_more (Some due) gots r h = record {
-  before = h.before;
-  got = h.got;
-  after = h.after ++ r ∷ [];
-  is_got = ap (λ (l : List (InTurn Reply)). l ++ r ∷ []) h.is_got ∙ append_assoc h.before (h.got ∷ h.after) (r ∷ []);
-  same = h.same;
-  turn = h.turn;
-}
-
--- one that answers it is it
-pub among_last : (o : Option (InTurn Reply)) (gots : List (InTurn Reply)) (r : InTurn Reply)
-    → IsAnsweredPong o (Some r) → IsAmong o (gots ++ r ∷ [])
-among_last None gots r h = tt
-among_last (Some due) gots r h =
-    record { before = gots; got = r; after = []; is_got = refl; same = h.0; turn = h.1 }
-
--- what is answered by one that is there is there
-pub among_so : (o w : Option (InTurn Reply)) (gots : List (InTurn Reply)) → IsAnsweredPong o w → IsAmong w gots
-    → IsAmong o gots
-among_so None w gots h there = tt
-among_so (Some due) None gots h there = absurd h
-among_so (Some due) (Some wanted) gots h there = record {
-  before = there.before;
-  got = there.got;
-  after = there.after;
-  is_got = there.is_got;
-  same = there.same ∙ h.0;
-  turn = omega (arith, there.turn, h.1);
-}
-
--- one pong more, which may be the one that is wanted
-pub pong_kept : (tally : ReplyTally) (replies : List (InTurn Reply)) (r : InTurn Reply) (there : Bool)
-    → is_pong r.what ≡ true → (there ≡ true → (tally.has_wanted ≡ true) ⊎ IsAnsweredPong tally.wanted (Some r))
+-- one pong more is the last
+pub pong_kept : (tally : ReplyTally) (replies : List (InTurn Reply)) (r : InTurn Reply) → is_pong r.what ≡ true
     → IsTallyOf tally replies
-    → IsTallyOf (record { messages = tally.messages; last_pong = Some r; wanted = tally.wanted; has_wanted = there })
-    (replies ++ r ∷ [])
-pong_kept tally replies r there is by h = record {
+    → IsTallyOf (record { messages = tally.messages; last_pong = Some r }) (replies ++ r ∷ [])
+pong_kept tally replies r is h = record {
   messages =
       h.messages ∙ ap (λ (l : List (InTurn Reply)). length l)
       (sym (append-nil (message_replies replies)) ∙ ap (λ (l : List (InTurn Reply)). message_replies replies ++ l) (sym (none_left (λ x. is_message x.what) r (pong_is_no_message r.what is))) ∙ sym (filter-append (λ x. is_message x.what) replies (r ∷ [])));
   last_pong = sym (ap (λ (l : List (InTurn Reply)). last_or None l) pongs ∙ last_joined None (pong_replies replies) (r ∷ []));
-  wanted = λ e. subst (λ (l : List (InTurn Reply)). IsAmong tally.wanted l) (sym pongs) (pick (by e));
 }
   where
     pongs : pong_replies (replies ++ r ∷ []) ≡ pong_replies replies ++ r ∷ []
     pongs = filter-append (λ x. is_pong x.what) replies (r ∷ [])
         ∙ ap (λ (l : List (InTurn Reply)). pong_replies replies ++ l) (one_left (λ x. is_pong x.what) r is)
-
-    pick : (tally.has_wanted ≡ true) ⊎ IsAnsweredPong tally.wanted (Some r) → IsAmong tally.wanted (pong_replies replies ++ r ∷ [])
-    pick (inl e) = among_more tally.wanted (pong_replies replies) r (h.wanted e)
-    pick (inr a) = among_last tally.wanted (pong_replies replies) r a
 
 -- ---- what is kept tells whether what is due has come
 
@@ -206,42 +166,26 @@ all_handed found role turns session c handed replies tally fresh h = record {
   limits = h.limits;
 }
 
--- what is kept has the tally of the same replies, whatever is wanted of them from here on
-other_tally : (found : Event → List Reply) (role : Role) (turns : List (List ℕ)) (session : SessionValue)
-    (c : Collected RunReplies) (handed : List (InTurn Reply)) (tally : ReplyTally)
-    → ((l : List (InTurn Reply)) → IsTallyOf c.replies.tally l → IsTallyOf tally l)
-    → HasTakenTurns (AreKeptSince handed) found role turns session c
-    → HasTakenTurns (AreKeptSince handed) found role turns session (record {
-      replies = record { tally = tally; fresh = c.replies.fresh };
-      ending = c.ending;
-      has_rest = c.has_rest;
-    })
-other_tally found role turns session c handed tally same h = record {
-  shown = h.shown;
-  is_shown = h.is_shown;
-  replies = record { tally = same h.shown.replies h.replies.tally; fresh = h.replies.fresh };
-  ending = h.ending;
-  has_rest = h.has_rest;
-  sent = h.sent;
-  exchanged = h.exchanged;
-  same_role = h.same_role;
-  limits = h.limits;
-}
-
 module _ (tested : Role) (x v : GrowingValue) (same : x ≡ v) where
-  pub next_turn : (turns : List Turn) (n : ℕ) → n ≡ min (x.turns + 1) (2 ^ 64 - 1) → length turns + 1 < 2 ^ 64
-      → HasGrown tested turns v
+  pub next_turn : (turns : List Turn) (n : ℕ) (last_ping : LastPing) → n ≡ min (x.turns + 1) (2 ^ 64 - 1)
+      → ((turn next : ℕ) (dues gots : List (InTurn Reply)) → AllByRecursion (λ g. g.turn < next) gots
+      → IsLastPingOf turn dues gots x.last_ping → IsLastPingOf next dues gots last_ping)
+      → length turns + 1 < 2 ^ 64 → HasGrown tested turns v
       → HasGrown tested (turns ++ new_turn ∷ []) (record {
         due = x.due;
         got = x.got;
         pairing = x.pairing;
+        last_ping = last_ping;
         tested = x.tested;
         tester = x.tester;
         turns = n;
         pings = x.pings;
       })
-  next_turn turns n e room grown =
+  next_turn turns n last_ping e begins room grown =
       let h = subst (λ (y : GrowingValue). HasGrown tested turns y) (sym same) grown in
+      let next : length turns ≡ length (turns ++ new_turn ∷ []) - 1 = omega (arith, length-append turns (new_turn ∷ [])) in
+      let all = all_handed_on got_in (other_role tested) (got_turns turns) x.tester x.got h.gots h.no_got h.got in
+      let count : length (got_turns turns) ≡ length turns = length-map turns (λ (t : Turn). t.got) in
       record {
         dues = h.dues;
         gots = h.gots;
@@ -252,6 +196,9 @@ module _ (tested : Role) (x v : GrowingValue) (same : x ≡ v) where
         no_due = h.no_due;
         no_got = h.no_got;
         pairing = h.pairing;
+        last_ping = subst (λ (k : ℕ). IsLastPingOf k h.dues h.gots last_ping) next
+            (begins (length turns - 1) (length turns) h.dues h.gots
+            (subst (λ (k : ℕ). AllByRecursion (λ g. g.turn < k) h.gots) count all) h.last_ping);
         count = omega (arith, e, room, h.count, length-append turns (new_turn ∷ []));
       }
 
@@ -274,68 +221,79 @@ module _ (tested : Role) (x v : GrowingValue) (same : x ≡ v) where
     same_count : (other : Turn) → x.turns ≡ length (before ++ other ∷ [])
     same_count other = omega (arith, so_far.count, length-append before (turn ∷ []), length-append before (other ∷ []))
 
+    -- the turn that has begun last is behind those before it, whatever it is
+    last_place : (other : Turn) → length before ≡ length (before ++ other ∷ []) - 1
+    last_place other = omega (arith, length-append before (other ∷ []))
+
+    ping_so_far : IsLastPingOf (length before) so_far.dues so_far.gots x.last_ping
+    ping_so_far = subst (λ (k : ℕ). IsLastPingOf k so_far.dues so_far.gots x.last_ping) (sym (last_place turn))
+        so_far.last_ping
+
     -- a piece more was sent, what is due for it was handed on, and what was got is kept as it was
-    pub more_sent : (bytes : List ℕ) (session : SessionValue) (due : Collected RunReplies) (replies : RunReplies)
-        (tally : ReplyTally) (pairing : Pairing) (pings : List (List ℕ))
+    pub more_sent : EventLaws → (bytes : List ℕ) (session : SessionValue) (due : Collected RunReplies)
+        (replies : RunReplies) (pairing : Pairing) (last_ping : LastPing) (pings : List (List ℕ))
         → HasTakenTurns (AreKeptSince so_far.dues) due_for tested (sent_turns before ++ (turn.sent ++ bytes) ∷ []) session due
         → replies.tally ≡ due.replies.tally → replies.fresh ≡ []
-        → ((l : List (InTurn Reply)) → IsTallyOf x.got.replies.tally l → IsTallyOf tally l)
         → ((dues gots : List (InTurn Reply)) → IsPairingOf dues gots x.pairing
         → IsPairingOf (dues ++ due.replies.fresh) gots pairing)
+        → ((n : ℕ) (dues gots : List (InTurn Reply)) → AreOfTurn n due.replies.fresh
+        → IsLastPingOf n dues gots x.last_ping → IsLastPingOf n (dues ++ due.replies.fresh) gots last_ping)
         → HasGrown tested (before ++ turn_with_sent turn bytes ∷ []) (record {
           due = record { replies = replies; ending = due.ending; has_rest = due.has_rest };
-          got = record {
-            replies = record { tally = tally; fresh = x.got.replies.fresh };
-            ending = x.got.ending;
-            has_rest = x.got.has_rest;
-          };
+          got = x.got;
           pairing = pairing;
+          last_ping = last_ping;
           tested = session;
           tester = x.tester;
           turns = x.turns;
           pings = pings;
         })
-    more_sent bytes session due replies tally pairing pings t same_tally fresh wanted paired =
+    more_sent laws bytes session due replies pairing last_ping pings t same_tally fresh paired pinged =
         let dues = so_far.dues ++ due.replies.fresh in
         let new_due : Collected RunReplies = record { replies = replies; ending = due.ending; has_rest = due.has_rest } in
-        let new_got : Collected RunReplies = record {
-          replies = record { tally = tally; fresh = x.got.replies.fresh };
-          ending = x.got.ending;
-          has_rest = x.got.has_rest;
-        } in
+        let of_turn : AreOfTurn (length before) due.replies.fresh = fresh_in_turn laws due_for tested (sent_turns before)
+        turn.sent bytes x.tested session x.due due so_far.dues so_far.no_due due_so_far t
+        (length before) (length-map before (λ (t : Turn). t.sent)) in
         record {
           dues = dues;
           gots = so_far.gots;
           due = subst (λ (l : List (List ℕ)). HasTakenTurns (AreKeptSince dues) due_for tested l session new_due)
               (sym (sent_last before (turn_with_sent turn bytes)))
               (all_handed due_for tested _ session due so_far.dues replies same_tally fresh t);
-          got = subst (λ (l : List (List ℕ)). HasTakenTurns (AreKeptSince so_far.gots) got_in (other_role tested) l x.tester new_got)
-              (sym (got_last before (turn_with_sent turn bytes)))
-              (other_tally got_in (other_role tested) _ x.tester x.got so_far.gots tally wanted got_so_far);
+          got = subst (λ (l : List (List ℕ)). HasTakenTurns (AreKeptSince so_far.gots) got_in (other_role tested) l x.tester x.got)
+              (sym (got_last before (turn_with_sent turn bytes))) got_so_far;
           no_due = fresh;
           no_got = so_far.no_got;
           pairing = paired so_far.dues so_far.gots so_far.pairing;
+          last_ping = subst (λ (k : ℕ). IsLastPingOf k dues so_far.gots last_ping) (last_place (turn_with_sent turn bytes))
+              (pinged (length before) so_far.dues so_far.gots of_turn ping_so_far);
           count = same_count (turn_with_sent turn bytes);
         }
 
     -- a piece more was got, and what it says was handed on
-    pub more_got : (bytes : List ℕ) (session : SessionValue) (got : Collected RunReplies) (replies : RunReplies)
-        (pairing : Pairing) (pings : List (List ℕ))
+    pub more_got : EventLaws → (bytes : List ℕ) (session : SessionValue) (got : Collected RunReplies)
+        (replies : RunReplies) (pairing : Pairing) (last_ping : LastPing) (pings : List (List ℕ))
         → HasTakenTurns (AreKeptSince so_far.gots) got_in (other_role tested) (got_turns before ++ (turn.got ++ bytes) ∷ []) session got
         → replies.tally ≡ got.replies.tally → replies.fresh ≡ []
         → ((dues gots : List (InTurn Reply)) → IsPairingOf dues gots x.pairing
         → IsPairingOf dues (gots ++ got.replies.fresh) pairing)
+        → ((n : ℕ) (dues gots : List (InTurn Reply)) → AreOfTurn n got.replies.fresh
+        → IsLastPingOf n dues gots x.last_ping → IsLastPingOf n dues (gots ++ got.replies.fresh) last_ping)
         → HasGrown tested (before ++ turn_with_got turn bytes ∷ []) (record {
           due = x.due;
           got = record { replies = replies; ending = got.ending; has_rest = got.has_rest };
           pairing = pairing;
+          last_ping = last_ping;
           tested = x.tested;
           tester = session;
           turns = x.turns;
           pings = pings;
         })
-    more_got bytes session got replies pairing pings t same_tally fresh paired =
+    more_got laws bytes session got replies pairing last_ping pings t same_tally fresh paired pinged =
         let gots = so_far.gots ++ got.replies.fresh in
+        let of_turn : AreOfTurn (length before) got.replies.fresh = fresh_in_turn laws got_in (other_role tested)
+        (got_turns before) turn.got bytes x.tester session x.got got so_far.gots so_far.no_got got_so_far t
+        (length before) (length-map before (λ (t : Turn). t.got)) in
         let new_got : Collected RunReplies = record { replies = replies; ending = got.ending; has_rest = got.has_rest } in
         record {
           dues = so_far.dues;
@@ -348,6 +306,8 @@ module _ (tested : Role) (x v : GrowingValue) (same : x ≡ v) where
           no_due = so_far.no_due;
           no_got = fresh;
           pairing = paired so_far.dues so_far.gots so_far.pairing;
+          last_ping = subst (λ (k : ℕ). IsLastPingOf k so_far.dues gots last_ping) (last_place (turn_with_got turn bytes))
+              (pinged (length before) so_far.dues so_far.gots of_turn ping_so_far);
           count = same_count (turn_with_got turn bytes);
         }
 

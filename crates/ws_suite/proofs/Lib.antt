@@ -5,12 +5,14 @@ mod TurnsCollected
 mod QuietStreams
 mod SeenStreams
 mod JudgeLemmas
+mod NotedLemmas
 mod PlaceLemmas
 mod LastTurns
 mod OwedLemmas
 mod TellingLemmas
 mod ProgressLemmas
 mod UnansweredLemmas
+mod LastPingLemmas
 mod GrowingLemmas
 mod DoomLemmas
 mod LastBytes

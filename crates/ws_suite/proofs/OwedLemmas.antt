@@ -1,7 +1,9 @@
 -- What comes of the pings that had to be answered, one ping after the other.
-use Rattle.std.proofs.Common.{◌≡◌, ◌↔◌, ◌∙◌, ◌-◌, ◌<◌, not, Bool, true, false, ◌&&◌, ◌||◌, cond, List, [], ◌∷◌, ◌++◌}
+use Rattle.std.proofs.Common.{◌≡◌, ◌↔◌, ◌∙◌, ℕ, ◌-◌, ◌<◌, not, Bool, true, false, ◌&&◌, ◌||◌, cond, List, [], ◌∷◌, ◌++◌}
 use Rattle.std.proofs.Common.{length, take, filter, Option, None, Some, ◌⊎◌, inl, inr, ap, ap₂, sym, refl, subst, arith}
+use Rattle.std.proofs.Common.{min, nat_lt}
 use Rattle.std.proofs.Math.Bool.{or-false}
+use Rattle.std.proofs.lemmas.Bool.{le-ltb, lt-ltb, ltb-false, ltb-true}
 use Rattle.std.proofs.Math.Seq.{take-append_seam}
 use Rattle.std.proofs.lemmas.List.{append-nil, length-append}
 use Rattle.std.proofs.lemmas.List.Elements.{filter-append}
@@ -11,8 +13,8 @@ use Rattle.ws_suite.specs.declared.evidence.InTurn.{InTurn}
 use Rattle.ws_suite.specs.declared.evidence.Reply.{Reply}
 use Rattle.ws_suite.specs.declared.evidence.Evidence.{Evidence}
 use Rattle.ws_suite.specs.declared.judging.owed.OwedPongs.{OwedPongs}
-use Rattle.ws_suite.specs.InnerMarks.{AreMet, AreOwedFindings}
-use Rattle.ws_suite.specs.Matching.{due_pongs, got_pongs}
+use Rattle.ws_suite.specs.InnerMarks.{AreMet, AreOwedFindings, is_pong_before, is_turn_before}
+use Rattle.ws_suite.specs.Matching.{due_pongs, got_pongs, is_pong}
 use Rattle.ws_suite.specs.Protocol.{IsLastAnswered, OwesPongs, is_answered, is_owed, later_pongs, owed_pongs}
 use Rattle.ws_suite.proofs.EvidenceLemmas.{last_joined}
 use Rattle.ws_suite.proofs.TestLemmas.{all_filtered, all_so, last_of_all, none_fails}
@@ -224,3 +226,42 @@ found_of_met x found all last one =
     answered some =
         let h = last_of_all Answered (owed_pongs x) some owed in
         record { last = h.0; is_last = h.1; answered = inl h.2 }
+
+-- ---- those that are owed, among all replies
+
+-- the pongs before the turn from which on none is owed
+pub owed_before : (x : Evidence) (end : Option ℕ) → ((pong : InTurn Reply) → is_turn_before end pong.turn ≡ is_owed x pong)
+    → (replies : List (InTurn Reply)) → filter (is_pong_before end) replies
+    ≡ filter (is_owed x) (filter (λ (r : InTurn Reply). is_pong r.what) replies)
+owed_before x end same [] = refl
+owed_before x end same (r ∷ replies) = pick (owed_before x end same replies) (is_pong r.what) refl
+  where
+    rest : List (InTurn Reply)
+    rest = filter (λ (q : InTurn Reply). is_pong q.what) replies
+
+    pick : filter (is_pong_before end) replies ≡ filter (is_owed x) rest → (b : Bool) → is_pong r.what ≡ b
+        → cond (is_pong r.what && is_turn_before end r.turn) (r ∷ filter (is_pong_before end) replies)
+        (filter (is_pong_before end) replies)
+        ≡ filter (is_owed x) (cond (is_pong r.what) (r ∷ rest) rest)
+    pick later true e =
+        ap (λ (b : Bool). cond (b && is_turn_before end r.turn) (r ∷ filter (is_pong_before end) replies)
+        (filter (is_pong_before end) replies)) e
+        ∙ (ap₂ (λ (b : Bool) (l : List (InTurn Reply)). cond b (r ∷ l) l) (same r) later
+        ∙ ap (λ (b : Bool). filter (is_owed x) (cond b (r ∷ rest) rest)) (sym e))
+    pick later false e =
+        ap (λ (b : Bool). cond (b && is_turn_before end r.turn) (r ∷ filter (is_pong_before end) replies)
+        (filter (is_pong_before end) replies)) e
+        ∙ (later ∙ ap (λ (b : Bool). filter (is_owed x) (cond b (r ∷ rest) rest)) (sym e))
+
+-- what is before the lesser of two is before both
+pub before_both : (turn a b : ℕ) → nat_lt turn (min a b) ≡ (nat_lt turn a && nat_lt turn b)
+before_both turn a b = pick (nat_lt turn a) (nat_lt turn b) refl refl
+  where
+    pick : (x y : Bool) → nat_lt turn a ≡ x → nat_lt turn b ≡ y
+        → nat_lt turn (min a b) ≡ (nat_lt turn a && nat_lt turn b)
+    pick true true e f = lt-ltb turn (min a b) (omega (arith, ltb-true turn a e, ltb-true turn b f))
+        ∙ sym (ap₂ (λ (x y : Bool). x && y) e f)
+    pick true false e f = le-ltb turn (min a b) (omega (arith, ltb-false turn b f))
+        ∙ sym (ap₂ (λ (x y : Bool). x && y) e f)
+    pick false y e f = le-ltb turn (min a b) (omega (arith, ltb-false turn a e))
+        ∙ sym (ap₂ (λ (x y : Bool). x && y) e f)

@@ -1,11 +1,8 @@
 -- What a run waits for by the protocol: where a pong that was got answers the last ping, the last ping for which a pong
 -- is owed is answered too, or a later one is.
-use Rattle.std.proofs.Common.{◌≡◌, ◌∙◌, ℕ, ◌<◌, ◌≤◌, ◌↔◌, not, nat_le, Bool, true, false, ◌&&◌, ◌||◌, List, [], ◌∷◌, ◌++◌}
-use Rattle.std.proofs.Common.{length, filter, Option, None, Some, ◌⊎◌, inl, inr, ap, ap₂, sym, refl, subst, arith}
+use Rattle.std.proofs.Common.{◌≡◌, ◌∙◌, ◌<◌, ◌↔◌, not, Bool, true, false, ◌||◌, List, [], ◌∷◌, ◌++◌}
+use Rattle.std.proofs.Common.{length, filter, Option, None, Some, ◌⊎◌, inl, inr, ap, append-nil, sym, refl, subst, arith}
 use Rattle.std.proofs.Math.Bool.{or-true}
-use Rattle.std.proofs.lemmas.Bool.Decides.{nat_tests}
-use Rattle.std.proofs.lemmas.Slice.Eq.{bytes_eq-Decides}
-use Rattle.std.proofs.lemmas.List.Folds.{list_any-append}
 use Rattle.std.specs.List.{last_or, list_any}
 use Rattle.ws_wire.specs.declared.role.Role.{Role}
 use Rattle.ws_scripts.specs.declared.expectation.Expectation.{Expectation}
@@ -15,16 +12,16 @@ use Rattle.ws_scripts.specs.declared.transcript.Ended.TheVariants.{Tester}
 use Rattle.ws_suite.specs.declared.evidence.InTurn.{InTurn}
 use Rattle.ws_suite.specs.declared.evidence.Reply.{Reply}
 use Rattle.ws_suite.specs.declared.evidence.Evidence.{Evidence}
-use Rattle.ws_suite.specs.declared.evidence.keeping.ReplyTally.{ReplyTally}
+use Rattle.ws_suite.specs.declared.evidence.keeping.RunReplies.{RunReplies}
 use Rattle.ws_suite.specs.Evidence.{IsEvidenceOf}
-use Rattle.ws_suite.specs.Growing.{GrowingValue, HasGrown, IsAmong, IsAnsweredIn, IsAnsweredPong, IsTallyOf}
+use Rattle.ws_suite.specs.Growing.{AreKeptSince, AreTurnsAnswered, GrowingValue, HasGrown}
 use Rattle.ws_suite.specs.InnerCollecting.{EventLaws}
-use Rattle.ws_suite.specs.Matching.{due_pongs, got_pongs, has_payload_of, payload_of}
+use Rattle.ws_suite.specs.LastPings.{is_due_among}
+use Rattle.ws_suite.specs.Matching.{due_pongs, got_pongs, pong_replies}
 use Rattle.ws_suite.specs.Protocol.{IsLastAnswered, OwesPongs, is_answered, is_owed, later_pongs, owed_pongs}
-use Rattle.ws_suite.specs.Waiting.{AnswersTallyBy, AreTurnsAnsweredBy, AreTurnsSeenAnswered, MeetsExpectation}
-use Rattle.ws_suite.specs.Waiting.{IsSeenAnswered}
+use Rattle.ws_suite.specs.Waiting.{AreTurnsAnsweredBy, AreTurnsSeenAnswered, IsLastPingAnswered, IsSeenAnswered}
+use Rattle.ws_suite.specs.Waiting.{MeetsExpectation}
 use Rattle.ws_suite.proofs.EvidenceLemmas.{last_joined}
-use Rattle.ws_suite.proofs.GrowingLemmas.{among_last, among_so, tallies_tell, there_pong}
 use Rattle.ws_suite.proofs.OneVerdict.{one_evidence}
 use Rattle.ws_suite.proofs.OwedLemmas.{all_but_last, any_or_last, is_later, last_passes, none_there, nothing_or_more}
 use Rattle.ws_suite.proofs.OwedLemmas.{passed_more, some_passes, some_same}
@@ -57,46 +54,15 @@ last_passed {X} test xs x is passes = pick (nothing_or_more xs)
         (ap (λ (l : List X). last_or None l) (passed_more test ys x passes)
         ∙ last_joined None (filter test ys) (x ∷ [])))
 
+-- all that was handed on is all there is
+all_there : (replies handed : List (InTurn Reply)) (kept : RunReplies) → AreKeptSince handed kept replies
+    → kept.fresh ≡ [] → replies ≡ handed
+all_there replies handed kept h none =
+    h.fresh ∙ (ap (λ (l : List (InTurn Reply)). handed ++ l) none ∙ append-nil handed)
+
 -- ---- the last ping for which a pong is owed
 
--- a ping whose pong is among those that were got is answered
-among_answered : (x : Evidence) (due : InTurn Reply) → IsAmong (Some due) (got_pongs x) → is_answered x due ≡ true
-among_answered x due h =
-    ap (λ (l : List (InTurn Reply)). list_any test l) h.is_got ∙ (list_any-append test h.before (h.got ∷ h.after)
-    ∙ (ap (λ (b : Bool). list_any test h.before || (b || list_any test h.after)) passes
-    ∙ or-true (list_any test h.before)))
-  where
-    test : InTurn Reply → Bool
-    test got = has_payload_of got due && nat_le due.turn got.turn
-
-    no_earlier : (n m : ℕ) → n ≤ m → nat_le n m ≡ true
-    no_earlier n m less = grind (arith, nat_tests)
-
-    payload : has_payload_of h.got due ≡ true
-    payload = (bytes_eq-Decides (payload_of due.what) (payload_of h.got.what)).1
-        (ap (λ (r : Reply). payload_of r) (sym h.same))
-
-    passes : test h.got ≡ true
-    passes = ap₂ (λ (a b : Bool). a && b) payload (no_earlier due.turn h.got.turn h.turn)
-
--- the last pong of those that were got is among them
-last_among : (o : Option (InTurn Reply)) (gots : List (InTurn Reply)) → IsAnsweredPong o (last_or None gots)
-    → IsAmong o gots
-last_among None gots h = tt
-last_among (Some due) gots h = pick (nothing_or_more gots)
-  where
-    Last : List (InTurn Reply) → Type 0
-    Last l = IsAnsweredPong (Some due) (last_or None l)
-
-    pick : (gots ≡ []) ⊎ ((ys : List (InTurn Reply)) × (y : InTurn Reply) × (gots ≡ ys ++ y ∷ []))
-        → IsAnsweredIn due gots
-    pick (inl e) = absurd (subst Last e h)
-    pick (inr (ys, y, e)) =
-        subst (λ (l : List (InTurn Reply)). IsAnsweredIn due l) (sym e)
-        (among_last (Some due) ys y (subst (λ (o : Option (InTurn Reply)). IsAnsweredPong (Some due) o)
-        (last_joined None ys (y ∷ [])) (subst Last e h)))
-
--- so is the last one for which a pong is owed, or a later one
+-- where the last ping that was sent is answered, so is the last one for which a pong is owed, or a later one
 owed_answered : (x : Evidence) (due : InTurn Reply) → last_or None (due_pongs x) ≡ Some due
     → is_answered x due ≡ true → OwesPongs x → IsLastAnswered x
 owed_answered x due is_due answered owes = pick (is_owed x due) refl
@@ -124,71 +90,74 @@ some_due x owes = some (due_pongs x) owes
     some [] owes = owes
     some (first ∷ l) owes = omega arith
 
--- what is among the pongs that were got has come
-among_meets : (x : Evidence) (o : Option (InTurn Reply)) → last_or None (due_pongs x) ≡ o → IsAmong o (got_pongs x)
-    → MeetsExpectation Protocol x
-among_meets x None e h = λ owes. absurd (none_there (due_pongs x) e (some_due x owes))
-among_meets x (Some due) e h = owed_answered x due e (among_answered x due h)
+-- where the last ping that was sent is answered, what is waited for has come
+last_meets : (x : Evidence) → IsLastPingAnswered x → MeetsExpectation Protocol x
+last_meets x h = pick (last_or None (due_pongs x)) refl
+  where
+    pick : (o : Option (InTurn Reply)) → last_or None (due_pongs x) ≡ o → MeetsExpectation Protocol x
+    pick None e = λ owes. absurd (none_there (due_pongs x) e (some_due x owes))
+    pick (Some due) e = owed_answered x due e (h due e)
+
+pub seen_meets : (expected : Expectation) (x : Evidence) → IsSeenAnswered expected x → MeetsExpectation expected x
+seen_meets Echo x h = h
+seen_meets Protocol x h = last_meets x h
+
+pub seen_come : (expected : Expectation) (tested : Role) (turns : List Turn) → AreTurnsSeenAnswered expected tested turns
+    → AreTurnsAnsweredBy expected tested turns
+seen_come expected tested turns a =
+    record { evidence = a.evidence; is_evidence = a.is_evidence; answered = seen_meets expected a.evidence a.answered }
 
 -- ---- what is kept tells it
 
--- what is kept tells that it has come
-tallies_tell_by : (expected : Expectation) (x : Evidence) (due got : ReplyTally) → IsTallyOf due x.due.replies
-    → IsTallyOf got x.got.replies → AnswersTallyBy expected due got → MeetsExpectation expected x
-tallies_tell_by Echo x due got d g h = (tallies_tell x due got d g).0 h
-tallies_tell_by Protocol x due got d g h = among_meets x due.last_pong (sym d.last_pong) (pick h)
-  where
-    pick : IsAnsweredPong due.last_pong got.last_pong ⊎ ((got.has_wanted ≡ true) × IsAnsweredPong due.last_pong got.wanted)
-        → IsAmong due.last_pong (got_pongs x)
-    pick (inl last) = last_among due.last_pong (got_pongs x)
-        (subst (λ (o : Option (InTurn Reply)). IsAnsweredPong due.last_pong o) g.last_pong last)
-    pick (inr (there, wanted)) = among_so due.last_pong got.wanted (got_pongs x) wanted (g.wanted there)
+-- of an echo what is due has come
+pub seen_of_echo : (tested : Role) (turns : List Turn) (r : Bool) → ((r ≡ true) ↔ AreTurnsAnswered tested turns)
+    → ((r ≡ true) ↔ AreTurnsSeenAnswered Echo tested turns)
+seen_of_echo tested turns r tells = (
+  λ e. let a = tells.0 e in record { evidence = a.evidence; is_evidence = a.is_evidence; answered = a.answered },
+  λ a. tells.1 (record { evidence = a.evidence; is_evidence = a.is_evidence; answered = a.answered }),
+)
 
--- and it tells what a run sees
-tallies_see : (expected : Expectation) (x : Evidence) (due got : ReplyTally) → IsTallyOf due x.due.replies
-    → IsTallyOf got x.got.replies → IsSeenAnswered expected x → AnswersTallyBy expected due got
-tallies_see Echo x due got d g h = (tallies_tell x due got d g).1 h
-tallies_see Protocol x due got d g h =
-    inl (there_pong (due_pongs x) (got_pongs x) due.last_pong got.last_pong (sym d.last_pong) (sym g.last_pong) h)
+-- whether one of them answers the last that is due, if there is one
+among_tells : (x : Evidence) (o : Option (InTurn Reply)) → last_or None (due_pongs x) ≡ o
+    → ((is_due_among o (got_pongs x) ≡ true) ↔ IsLastPingAnswered x)
+among_tells x None e = (
+  λ b. λ last is. absurd (let wrong : None ≡ Some last = sym e ∙ is in cc),
+  λ h. refl,
+)
+among_tells x (Some due) e = (
+  λ b. λ last is. ap (λ (p : InTurn Reply). is_answered x p) (some_same last due (sym is ∙ e)) ∙ b,
+  λ h. h due e,
+)
 
-module _ (laws : EventLaws) (expected : Expectation) (tested : Role) (turns : List Turn)
-    (x v : GrowingValue) (r : Bool) (same : x ≡ v)
-    (tells : (r ≡ true) ↔ AnswersTallyBy expected x.due.replies.tally x.got.replies.tally)
-    (grown : HasGrown tested turns v) where
-  h : HasGrown tested turns x
-  h = subst (λ (y : GrowingValue). HasGrown tested turns y) (sym same) grown
-
-  shown : Evidence
-  shown = record {
-    due = h.due.shown;
-    got = h.got.shown;
-    turns = length turns;
-    ended = Tester;
-    answers_doom = false;
-  }
-
-  is : IsEvidenceOf tested (record { turns = turns; ended = Tester }) shown
-  unfolding shown h
-  is = record {
-    due = h.due.is_shown;
-    got = h.got.is_shown;
-    turns = refl;
-    ended = refl;
-    uncounted = refl;
-  }
-
-  -- what a run sees in these turns is told
-  pub tells_seen : AreTurnsSeenAnswered expected tested turns → r ≡ true
-  unfolding shown h
-  tells_seen a = tells.1 (tallies_see expected shown x.due.replies.tally x.got.replies.tally h.due.replies.tally h.got.replies.tally
-      (subst (λ (v : Evidence). IsSeenAnswered expected v)
-      (one_evidence laws tested (record { turns = turns; ended = Tester }) a.evidence shown a.is_evidence is) a.answered))
-
-  -- what is told has come
-  pub tells_come : r ≡ true → AreTurnsAnsweredBy expected tested turns
-  unfolding shown h
-  tells_come e = record {
-    evidence = shown;
-    is_evidence = is;
-    answered = tallies_tell_by expected shown x.due.replies.tally x.got.replies.tally h.due.replies.tally h.got.replies.tally (tells.0 e);
-  }
+-- by the protocol the last ping that was sent is answered
+pub seen_of_last_ping : EventLaws → (tested : Role) (turns : List Turn) (x v : GrowingValue) (r : Bool) → x ≡ v
+    → r ≡ x.last_ping.is_answered → HasGrown tested turns v
+    → ((r ≡ true) ↔ AreTurnsSeenAnswered Protocol tested turns)
+seen_of_last_ping laws tested turns x v r same tells grown =
+    let h = subst (λ (y : GrowingValue). HasGrown tested turns y) (sym same) grown in
+    let shown : Evidence = record {
+      due = h.due.shown;
+      got = h.got.shown;
+      turns = length turns;
+      ended = Tester;
+      answers_doom = false;
+    } in
+    let is : IsEvidenceOf tested (record { turns = turns; ended = Tester }) shown = record {
+      due = h.due.is_shown;
+      got = h.got.is_shown;
+      turns = refl;
+      ended = refl;
+      uncounted = refl;
+    } in
+    let dues : h.due.shown.replies ≡ h.dues = all_there h.due.shown.replies h.dues x.due.replies h.due.replies h.no_due in
+    let gots : h.got.shown.replies ≡ h.gots = all_there h.got.shown.replies h.gots x.got.replies h.got.replies h.no_got in
+    let due : last_or None (due_pongs shown) ≡ x.last_ping.due =
+    ap (λ (l : List (InTurn Reply)). last_or None (pong_replies l)) dues ∙ sym h.last_ping.due in
+    let told : r ≡ is_due_among x.last_ping.due (got_pongs shown) =
+    tells ∙ (h.last_ping.is_answered
+    ∙ ap (λ (l : List (InTurn Reply)). is_due_among x.last_ping.due (pong_replies l)) (sym gots)) in
+    let both = among_tells shown x.last_ping.due due in (
+      λ e. record { evidence = shown; is_evidence = is; answered = both.0 (sym told ∙ e) },
+      λ a. told ∙ both.1 (subst (λ (y : Evidence). IsLastPingAnswered y)
+          (one_evidence laws tested (record { turns = turns; ended = Tester }) a.evidence shown a.is_evidence is) a.answered),
+    )

@@ -1,5 +1,5 @@
 -- Evidence that grows with a connection: what went over it so far, turn by turn, and in a turn piece by piece.
-use Rattle.std.specs.Prelude.{◌≡◌, ℕ, ◌<◌, ◌≤◌, ◌⊎◌, ◌↔◌, Bool, true, false, ⊤, List, [], ◌∷◌, ◌++◌, length}
+use Rattle.std.specs.Prelude.{◌≡◌, ℕ, ◌-◌, ◌<◌, ◌≤◌, ◌⊎◌, Bool, true, false, ⊤, List, [], ◌∷◌, ◌++◌, length}
 use Rattle.std.specs.Prelude.{Option, Some, None}
 use Rattle.std.specs.List.{concat, last_or, list_any}
 use Rattle.ws_wire.specs.declared.role.Role.{Role}
@@ -19,10 +19,12 @@ use Rattle.ws_suite.specs.declared.evidence.collecting.Collected.{Collected}
 use Rattle.ws_suite.specs.declared.evidence.keeping.AllReplies.{AllReplies}
 use Rattle.ws_suite.specs.declared.evidence.keeping.ReplyTally.{ReplyTally}
 use Rattle.ws_suite.specs.declared.evidence.keeping.RunReplies.{RunReplies}
+use Rattle.ws_suite.specs.declared.evidence.last_ping.LastPing.{LastPing}
 use Rattle.ws_suite.specs.declared.evidence.pairing.Pairing.{Pairing}
 use Rattle.ws_suite.specs.Evidence.{IsDirectionOf, IsEvidenceOf, due_for, got_in, got_turns, other_role, sent_turns}
 use Rattle.ws_suite.specs.Matching.{HasLastPong, IsBeginningOf, IsShortOfMessages, bare, due_messages, due_pongs}
-use Rattle.ws_suite.specs.Matching.{got_messages, is_pong, matches, message_replies, pong_replies}
+use Rattle.ws_suite.specs.LastPings.{IsLastPingOf}
+use Rattle.ws_suite.specs.Matching.{got_messages, matches, message_replies, pong_replies}
 use Rattle.ws_suite.specs.Pairings.{IsPairingOf}
 use Rattle.ws_suite.specs.Verdicts.{is_unmatched}
 
@@ -82,47 +84,16 @@ pub record EndInsideFrame (tested : Role) (turns : List Turn) : Type 0 where
 abbrev pub AreAll : AllReplies → List (InTurn Reply) → Type 0
 AreAll kept replies = kept.list ≡ replies
 
--- one of these pongs that were got has the payload of the due one, and stands in no earlier turn
-pub record IsAnsweredIn (due : InTurn Reply) (gots : List (InTurn Reply)) : Type 0 where
-  pub before : List (InTurn Reply)
-  pub got : InTurn Reply
-  pub after : List (InTurn Reply)
-  pub is_got : gots ≡ before ++ got ∷ after
-  pub same : got.what ≡ due.what
-  pub turn : due.turn ≤ got.turn
-
--- so it is, if there is a due one
-abbrev pub IsAmong : Option (InTurn Reply) → List (InTurn Reply) → Type 0
-IsAmong None gots = ⊤
-IsAmong (Some due) gots = IsAnsweredIn due gots
-
--- How many messages there are among the replies, and the last pong are kept. Where it is told that the pong that is
--- wanted is there, it is among them; those that came before it was wanted needn't be looked at.
+-- how many messages there are among the replies, and the last pong, are kept
 pub record IsTallyOf (tally : ReplyTally) (replies : List (InTurn Reply)) : Type 0 where
   pub messages : tally.messages ≡ length (message_replies replies)
   pub last_pong : tally.last_pong ≡ last_or None (pong_replies replies)
-  pub wanted : tally.has_wanted ≡ true → IsAmong tally.wanted (pong_replies replies)
 
 -- the last due pong, if there is one, is the last that was got, and stands in no later turn
 abbrev pub IsAnsweredPong : Option (InTurn Reply) → Option (InTurn Reply) → Type 0
 IsAnsweredPong None got = ⊤
 IsAnsweredPong (Some due) None = ⊥
 IsAnsweredPong (Some due) (Some got) = (got.what ≡ due.what) × (due.turn ≤ got.turn)
-
--- These are due by now: from here on the last of their pongs is wanted, and none has come that answers it. Where one
--- with the same payload of no earlier turn is wanted already, that stays so, and whether it has come.
-pub record IsWantedFrom (due old new : ReplyTally) : Type 0 where
-  pub messages : new.messages ≡ old.messages
-  pub last_pong : new.last_pong ≡ old.last_pong
-  pub already : IsAnsweredPong due.last_pong old.wanted
-      → (new.wanted ≡ old.wanted) × (new.has_wanted ≡ old.has_wanted)
-  pub anew : ¬ (IsAnsweredPong due.last_pong old.wanted) → (new.wanted ≡ due.last_pong) × (new.has_wanted ≡ false)
-
--- with one reply more the pong that is wanted has come where it had before, or where this is it
-pub record IsWantedStill (reply : InTurn Reply) (old new : ReplyTally) : Type 0 where
-  pub wanted : new.wanted ≡ old.wanted
-  pub come : (new.has_wanted ≡ true) ↔ ((old.has_wanted ≡ true)
-      ⊎ ((is_pong reply.what ≡ true) × IsAnsweredPong old.wanted (Some reply)))
 
 -- what a run keeps of the replies: the tally of all, and those that were told since these were handed on
 pub record AreKeptSince (handed : List (InTurn Reply)) (kept : RunReplies) (replies : List (InTurn Reply))
@@ -137,12 +108,13 @@ AnswersTally due got = (due.messages ≤ got.messages) × IsAnsweredPong due.las
 -- ---- the evidence that grows
 
 -- both directions as they were collected, with what is kept of their replies; what has come of comparing them; the
--- sessions of the tested end, which has taken what was sent, and of the tester, which has taken what was got; how many
--- turns have begun; and the pings that were sent and aren't answered yet
+-- last ping that was sent; the sessions of the tested end, which has taken what was sent, and of the tester, which has
+-- taken what was got; how many turns have begun; and the pings that were sent and aren't answered yet
 pub record GrowingValue : Type 0 where
   pub due : Collected RunReplies
   pub got : Collected RunReplies
   pub pairing : Pairing
+  pub last_ping : LastPing
   pub tested : SessionValue
   pub tester : SessionValue
   pub turns : ℕ
@@ -172,6 +144,7 @@ pub record HasGrown (tested : Role) (turns : List Turn) (x : GrowingValue) : Typ
   pub no_due : x.due.replies.fresh ≡ []
   pub no_got : x.got.replies.fresh ≡ []
   pub pairing : IsPairingOf dues gots x.pairing
+  pub last_ping : IsLastPingOf (length turns - 1) dues gots x.last_ping
   pub count : x.turns ≡ length turns
 
 -- ---- how a session stands whose stream has not ended

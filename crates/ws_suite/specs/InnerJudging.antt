@@ -1,10 +1,6 @@
 -- Inside the crate: lists of replies as the judge's functions see them. A reader may skip this file.
 use Rattle.std.specs.Prelude.{◌≡◌, ◌↔◌, ℕ, ◌<◌, ◌≤◌, Bool, true, false, List, filter, length, Option, None, Some}
-use Rattle.std.specs.Borrow.{Bor}
-use Rattle.std.specs.BTreeMap.{BTreeMap, get_by}
-use Rattle.std.specs.Cmp.Lexicographic.{slice_cmp}
 use Rattle.std.specs.List.{list_any, slice_get, zip}
-use Rattle.std.specs.Ordering.{nat_cmp}
 use Rattle.ws_wire.specs.declared.role.Role.{Role}
 use Rattle.ws_suite.specs.declared.verdict.FailWhy.{FailWhy}
 use Rattle.ws_suite.specs.declared.verdict.LooseWhy.{LooseWhy}
@@ -13,6 +9,8 @@ use Rattle.ws_suite.specs.declared.evidence.Reply.{Reply}
 use Rattle.ws_suite.specs.declared.evidence.Reply.TheVariants as reply
 use Rattle.ws_suite.specs.declared.evidence.Evidence.{Evidence}
 use Rattle.ws_suite.specs.declared.judging.findings.Findings.{Findings}
+use Rattle.ws_suite.specs.declared.judging.noted.Noted.{Noted}
+use Rattle.ws_suite.specs.InnerNoted.{noted_of}
 use Rattle.ws_suite.specs.Matching.{HasLastPong, IsBeginningOf, IsShortOfMessages, IsShortOfPongs, IsWithSomeLeftOut}
 use Rattle.ws_suite.specs.Matching.{bare, due_messages, due_pongs, got_messages, matches, payload_of}
 use Rattle.ws_suite.specs.Verdicts.{FailsNowhere, IsLowestFail, IsLowestLoose, IsNowhereLoose, is_before}
@@ -49,11 +47,15 @@ pub record AreFindingsOf (x : Evidence) (found : Findings) : Type 0 where
   pub has_last_pong : (found.has_last_pong ≡ true) ↔ HasLastPong x
   pub keeps_order : (found.keeps_order ≡ true) ↔ IsWithSomeLeftOut (bare x.got.replies) (bare x.due.replies)
 
--- each of these pongs stands at no later place than the one that is known as the last of its payload
-abbrev pub AreLastPlaces : List (InTurn Reply) → BTreeMap (Bor (List ℕ)) ℕ → Type 0
-AreLastPlaces due places = (place : ℕ) (pong : InTurn Reply) → slice_get due place ≡ Some pong
-    → (last : ℕ) × (get_by (λ (k : Bor (List ℕ)). slice_cmp nat_cmp (payload_of pong.what) k.now) places ≡ Some last)
-    × (place ≤ last)
+-- the place of a pong lies before what is known of its payload, if that has a place; else not all have one
+abbrev pub IsPlaceBefore : Bool → ℕ → Option ℕ → Type 0
+IsPlaceBefore has_all place None = has_all ≡ false
+IsPlaceBefore has_all place (Some end) = place < end
+
+-- each of these pongs stands at no later place than the last that is noted for its payload
+abbrev pub AreLastPlaces : List (InTurn Reply) → Noted → Type 0
+AreLastPlaces due noted = (place : ℕ) (pong : InTurn Reply) → slice_get due place ≡ Some pong
+    → IsPlaceBefore noted.has_all place (noted_of noted (payload_of pong.what))
 
 -- the lowest Fail that applies, or there is none
 abbrev pub IsFirstFail : Role → Evidence → Option FailWhy → Type 0

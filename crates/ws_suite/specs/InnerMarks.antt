@@ -1,12 +1,9 @@
 -- Inside the crate: how the marks of a connection are found, and what its pings come to. A reader may skip this file.
-use Rattle.std.specs.Prelude.{◌≡◌, ◌≢◌, ℕ, ◌+◌, ◌-◌, ◌<◌, ◌≤◌, ◌⊎◌, ◌↔◌, ◌&&◌, nat_le, Bool, true, false, List, []}
-use Rattle.std.specs.Prelude.{◌++◌, if◌then◌else◌, length, drop, take, flat_map, map, max, not, Option, Some, None}
+use Rattle.std.specs.Prelude.{◌≡◌, ◌≢◌, ℕ, ◌+◌, ◌-◌, ◌<◌, ◌≤◌, ◌⊎◌, ◌↔◌, ◌&&◌, nat_le, nat_lt, Bool, true, false}
+use Rattle.std.specs.Prelude.{List, []}
+use Rattle.std.specs.Prelude.{◌++◌, if◌then◌else◌, length, drop, take, flat_map, map, not, Option, Some, None}
 use Rattle.std.specs.Prelude.{⊤}
-use Rattle.std.specs.Borrow.{Bor}
-use Rattle.std.specs.BTreeMap.{BTreeMap, get_by}
-use Rattle.std.specs.Cmp.Lexicographic.{slice_cmp}
 use Rattle.std.specs.List.{AllByRecursion, concat, last_or, list_any}
-use Rattle.std.specs.Ordering.{nat_cmp}
 use Rattle.ws_wire.specs.declared.role.Role.{Role}
 use Rattle.ws_wire.specs.Frame.{Frame, IsWireFrame, KeyedFrame, WireFrame, stream_bytes, wire_bytes}
 use Rattle.ws_wire.specs.Header.{HeaderFields, is_longer_than_needed, is_masked}
@@ -29,6 +26,9 @@ use Rattle.ws_suite.specs.declared.evidence.Ending.{Ending}
 use Rattle.ws_suite.specs.declared.evidence.Ending.TheVariants.{Closed}
 use Rattle.ws_suite.specs.declared.evidence.Evidence.{Evidence}
 use Rattle.ws_suite.specs.declared.evidence.behind.GotPlace.{GotPlace}
+use Rattle.ws_suite.specs.declared.evidence.kept.Head.{Head}
+use Rattle.ws_suite.specs.declared.evidence.kept.ReplyKind.{ReplyKind}
+use Rattle.ws_suite.specs.declared.evidence.kept.ReplyKind.TheVariants.{Text, Binary, Pong, Ping}
 use Rattle.ws_suite.specs.declared.evidence.marks.MarkedEvidence.{MarkedEvidence}
 use Rattle.ws_suite.specs.declared.evidence.marks.Marks.{Marks}
 use Rattle.ws_suite.specs.declared.evidence.marks.Told.{Told}
@@ -40,15 +40,18 @@ use Rattle.ws_suite.specs.declared.evidence.streams.StreamEnd.{StreamEnd}
 use Rattle.ws_suite.specs.declared.evidence.streams.StreamEnd.TheVariants as stream
 use Rattle.ws_suite.specs.declared.evidence.streams.Streams.{Streams}
 use Rattle.ws_suite.specs.declared.evidence.wire_frames.WholeFrame.{WholeFrame}
+use Rattle.ws_suite.specs.declared.judging.noted.Noted.{Noted}
 use Rattle.ws_suite.specs.declared.judging.owed.OwedPongs.{OwedPongs}
 use Rattle.ws_suite.specs.declared.verdict.LooseWhy.{LooseWhy}
 use Rattle.ws_suite.specs.declared.verdict.LooseWhy.TheVariants as loose
 use Rattle.ws_suite.specs.Evidence.{AreEventsByTurn, HoldsByte, by_turn, ending_in, got_turns, other_role, sent_turns}
 use Rattle.ws_suite.specs.InnerCollecting.{way_bytes}
 use Rattle.ws_suite.specs.InnerJudging.{without_pings}
+use Rattle.ws_suite.specs.InnerNoted.{noted_of}
+use Rattle.ws_suite.specs.Kept.{turn_in}
 use Rattle.ws_suite.specs.Marks.{ArePongsAmong, HoldsUndefinedCode, StandBehind, begins_message, is_last_fragment}
 use Rattle.ws_suite.specs.Marks.{leaves_open, with_pongs}
-use Rattle.ws_suite.specs.Matching.{has_payload_of, payload_of}
+use Rattle.ws_suite.specs.Matching.{has_payload_of, is_pong, payload_of}
 use Rattle.ws_suite.specs.Protocol.{HasOwnClose, HasOwnFault, IsLastAnswered, IsLooseByProtocol, OwesPongs}
 use Rattle.ws_suite.specs.Protocol.{earlier_pongs, is_answered}
 use Rattle.ws_suite.specs.Verdicts.{loose_number}
@@ -322,14 +325,36 @@ is_answered_by gots due = list_any (λ got. has_payload_of got due && nat_le due
 abbrev pub AreMet : List (InTurn Reply) → List (InTurn Reply) → Type 0
 AreMet dues gots = AllByRecursion (λ due. is_answered_by gots due ≡ true) dues
 
--- which pings some of these pongs answer is known by the last turn of each payload
-abbrev pub AreLastTurns : List (InTurn Reply) → BTreeMap (Bor (List ℕ)) ℕ → Type 0
-AreLastTurns gots turns = (due : InTurn Reply)
-    → (list_any (λ got. has_payload_of got due && nat_le due.turn got.turn) gots ≡ true)
-    ↔ ((last : ℕ) × (get_by (λ (k : Bor (List ℕ)). slice_cmp nat_cmp (payload_of due.what) k.now) turns ≡ Some last)
-    × (due.turn ≤ last))
+-- whether a ping of this turn is answered is told by what is known of its payload; where that has no place, it isn't,
+-- or not all have one
+abbrev pub IsAnswerTold : Bool → Bool → ℕ → Option ℕ → Type 0
+IsAnswerTold has_all is_answered turn None = has_all ≡ true → is_answered ≡ false
+IsAnswerTold has_all is_answered turn (Some end) = (is_answered ≡ true) ↔ (turn < end)
 
--- the later of two turns, where there is another one
-abbrev pub latest : ℕ → Option ℕ → ℕ
-latest turn None = turn
-latest turn (Some other) = max turn other
+-- which pings some of these pongs answer is known by the last turn that is noted for each payload
+abbrev pub AreLastTurns : List (InTurn Reply) → Noted → Type 0
+AreLastTurns gots noted = (due : InTurn Reply)
+    → IsAnswerTold noted.has_all (is_answered_by gots due) due.turn (noted_of noted (payload_of due.what))
+
+-- a turn is before another one, if there is such
+abbrev pub is_turn_before : Option ℕ → ℕ → Bool
+is_turn_before None turn = true
+is_turn_before (Some end) turn = nat_lt turn end
+
+-- a pong of a turn before this one
+abbrev pub is_pong_before : Option ℕ → InTurn Reply → Bool
+is_pong_before end reply = is_pong reply.what && is_turn_before end reply.turn
+
+-- so it is by its head
+abbrev pub is_pong_kind : ReplyKind → Bool
+is_pong_kind Text = false
+is_pong_kind Binary = false
+is_pong_kind Pong = true
+is_pong_kind Ping = false
+
+abbrev pub is_head_before : Option ℕ → Head → Bool
+is_head_before end head = is_pong_kind head.kind && is_turn_before end (turn_in head)
+
+-- the payloads of replies, one behind the other
+abbrev pub joined_payloads : List (InTurn Reply) → List ℕ
+joined_payloads replies = flat_map (λ reply. payload_of reply.what) replies

@@ -10,6 +10,7 @@ pub mod Explanation
 pub mod Fairness
 pub mod AppFairness
 pub mod Pairings
+pub mod LastPings
 pub mod Progress
 pub mod Growing
 pub mod Waiting
@@ -18,6 +19,7 @@ pub mod Examples
 pub mod InnerCollecting
 pub mod InnerDoom
 pub mod InnerEchoReplyLaws
+pub mod InnerNoted
 pub mod InnerJudging
 pub mod InnerMarks
 pub mod InnerChosen

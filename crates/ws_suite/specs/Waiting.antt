@@ -1,16 +1,18 @@
 -- What a run waits for before the next turn is sent, by what is expected of the tested end.
-use Rattle.std.specs.Prelude.{◌≡◌, ◌<◌, ◌⊎◌, true, List, length}
+use Rattle.std.specs.Prelude.{◌≡◌, true, List, Some, None}
+use Rattle.std.specs.List.{last_or}
 use Rattle.ws_wire.specs.declared.role.Role.{Role}
 use Rattle.ws_scripts.specs.declared.expectation.Expectation.{Expectation}
 use Rattle.ws_scripts.specs.declared.expectation.Expectation.TheVariants.{Echo, Protocol}
 use Rattle.ws_scripts.specs.declared.transcript.Turn.{Turn}
 use Rattle.ws_scripts.specs.declared.transcript.Ended.TheVariants.{Tester}
+use Rattle.ws_suite.specs.declared.evidence.InTurn.{InTurn}
+use Rattle.ws_suite.specs.declared.evidence.Reply.{Reply}
 use Rattle.ws_suite.specs.declared.evidence.Evidence.{Evidence}
-use Rattle.ws_suite.specs.declared.evidence.keeping.ReplyTally.{ReplyTally}
 use Rattle.ws_suite.specs.Evidence.{IsEvidenceOf}
-use Rattle.ws_suite.specs.Growing.{AnswersTally, IsAnswered, IsAnsweredPong}
-use Rattle.ws_suite.specs.Matching.{HasLastPong, due_pongs}
-use Rattle.ws_suite.specs.Protocol.{IsLastAnswered, OwesPongs}
+use Rattle.ws_suite.specs.Growing.{IsAnswered}
+use Rattle.ws_suite.specs.Matching.{due_pongs}
+use Rattle.ws_suite.specs.Protocol.{IsLastAnswered, OwesPongs, is_answered}
 
 -- ---- what is waited for
 
@@ -28,22 +30,18 @@ pub record AreTurnsAnsweredBy (expected : Expectation) (tested : Role) (turns : 
 
 -- ---- what a run looks at
 
--- What a run sees whatever came between: of an echo that nothing is missing; by the protocol that the last pong that
--- was got answers the last ping, if a ping was sent. By the protocol it also sees a pong with the payload of that ping
--- behind which others came, where it came since that ping was sent. One of the same turn that came before the ping, and
--- behind which others came, it doesn't see: that would take a room for each pong of a turn.
+-- the last ping that was sent, if one was, is answered
+abbrev pub IsLastPingAnswered : Evidence → Type 0
+IsLastPingAnswered x = (last : InTurn Reply) → last_or None (due_pongs x) ≡ Some last → is_answered x last ≡ true
+
+-- What a run asks for: of an echo that nothing is missing, and by the protocol that the last ping is answered. So what
+-- is waited for has come.
 abbrev pub IsSeenAnswered : Expectation → Evidence → Type 0
 IsSeenAnswered Echo x = IsAnswered x
-IsSeenAnswered Protocol x = 0 < length (due_pongs x) → HasLastPong x
+IsSeenAnswered Protocol x = IsLastPingAnswered x
 
 -- by what these turns show
 pub record AreTurnsSeenAnswered (expected : Expectation) (tested : Role) (turns : List Turn) : Type 0 where
   pub evidence : Evidence
   pub is_evidence : IsEvidenceOf tested (record { turns = turns; ended = Tester }) evidence
   pub answered : IsSeenAnswered expected evidence
-
--- by what is kept, it is so
-abbrev pub AnswersTallyBy : Expectation → ReplyTally → ReplyTally → Type 0
-AnswersTallyBy Echo due got = AnswersTally due got
-AnswersTallyBy Protocol due got = IsAnsweredPong due.last_pong got.last_pong
-    ⊎ ((got.has_wanted ≡ true) × IsAnsweredPong due.last_pong got.wanted)

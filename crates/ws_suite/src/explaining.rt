@@ -6,7 +6,7 @@ ghost use Rattle.ws_suite.specs.Explanation.{IsExplanationBy, IsExplanationOf, I
 use crate::evidence::{
     Direction, Evidence, Found, MarkedEvidence, Shown, found_in, told_evidence_of, with_doom,
 };
-use crate::judging::{marked_with_doom, owed_among, verdict_by_protocol, verdict_on};
+use crate::judging::{end_of_owed, marked_with_doom, verdict_by_protocol, verdict_on};
 use crate::verdict::Verdict;
 use std::alloc::Global;
 use ws_base::NoMemory;
@@ -108,7 +108,7 @@ fn explain_by_protocol(
     let found = found_in(alloc, transcript, told.streams.got)?;
     let marked = marked_with_doom(alloc, tested, transcript, told)?;
     let verdict = verdict_by_protocol(alloc, tested, &marked)?;
-    let owed = owed_among(alloc, &marked.evidence)?;
+    let end = end_of_owed(&marked.evidence);
     let MarkedEvidence {
         evidence,
         behind: _,
@@ -123,10 +123,11 @@ fn explain_by_protocol(
         answers_doom: _,
     } = evidence;
     let Direction {
-        replies: _,
+        replies,
         ending,
         has_rest,
     } = due;
+    let owed = replies.pongs_before(alloc, end)?;
     Ok(Explanation {
         verdict,
         due: Direction {

@@ -5,6 +5,7 @@ mod fails;
 mod findings;
 mod in_step;
 mod looses;
+mod noted;
 mod owed;
 mod pongs;
 mod protocol;
@@ -28,7 +29,7 @@ use crate::evidence::{Evidence, MarkedEvidence, Shown, evidence_of, marked, with
 use crate::judging::fails::first_fail;
 use crate::judging::findings::findings_of;
 use crate::judging::looses::first_loose;
-pub(crate) use crate::judging::owed::owed_among;
+pub(crate) use crate::judging::owed::end_of_owed;
 pub(crate) use crate::judging::protocol::verdict_by_protocol;
 use crate::verdict::Verdict;
 use std::alloc::Global;

@@ -14,12 +14,13 @@ ghost use Rattle.ws_suite.specs.Progress.{EndInOtherFrame, NotesGot, NotesSent};
 ghost use Rattle.ws_suite.specs.declared.evidence.InTurn.{InTurn};
 ghost use Rattle.ws_suite.specs.declared.evidence.Reply.{Reply};
 ghost use Rattle.ws_suite.specs.declared.evidence.collecting.Way.{Way};
-ghost use Rattle.ws_suite.specs.Waiting.{AnswersTallyBy, AreTurnsAnsweredBy, AreTurnsSeenAnswered};
+ghost use Rattle.ws_suite.specs.Waiting.{AreTurnsAnsweredBy, AreTurnsSeenAnswered};
 
 use crate::evidence::collecting::{Rooms, Taken, Way, nothing_taken};
 use crate::evidence::keeping::{KeepsReplies, RunReplies};
+use crate::evidence::last_ping::LastPing;
 use crate::evidence::pairing::Pairing;
-use crate::evidence::unanswered::UnansweredPings;
+use crate::evidence::unanswered::ControlPayloads;
 use crate::evidence::watching::take_watched;
 use crate::lemmas::{frame_laws, session_laws};
 use std::alloc::Global;
@@ -31,15 +32,17 @@ use ws_wire::Role;
 
 /// What went over a connection so far, as far as it shows whether the tested end keeps the rules: what is due for what
 /// was sent, what was got, and how the sessions of both ends stand. It takes memory for the messages that are under
-/// way, and for what isn't answered yet. After `NoMemory` it shows nothing more.
+/// way, for what isn't answered yet, and for the pongs of the turn that has begun last. After `NoMemory` it shows
+/// nothing more.
 #[derive(Drop)]
 pub struct RunEvidence {
     rooms: Rooms,
     sent: Taken<RunReplies>,
     got: Taken<RunReplies>,
     pairing: Pairing,
+    last_ping: LastPing,
     turns: usize,
-    unanswered: UnansweredPings,
+    unanswered: ControlPayloads,
 }
 
 impl Model for RunEvidence {
@@ -51,6 +54,7 @@ impl Model for RunEvidence {
       due = x.sent.collected;
       got = x.got.collected;
       pairing = x.pairing;
+      last_ping = x.last_ping;
       tested = x.sent.session;
       tester = x.got.session;
       turns = x.turns;
@@ -69,8 +73,9 @@ impl RunEvidence {
             sent: nothing_taken(alloc, Way::Sent, tested),
             got: nothing_taken(alloc, Way::Got, other(tested)),
             pairing: Pairing::new(alloc),
+            last_ping: LastPing::new(alloc),
             turns: 0,
-            unanswered: UnansweredPings::new(alloc),
+            unanswered: ControlPayloads::new(alloc),
         }
     }
 
@@ -81,6 +86,7 @@ impl RunEvidence {
         ensures pings { self.new.pings ≡ self.old.pings }
     {
         self.turns = self.turns.saturating_add(1);
+        self.last_ping.begin_turn();
     }
 
     /// These bytes were sent in the turn that has begun last.
@@ -92,6 +98,7 @@ impl RunEvidence {
             HasGrown tested (before ++ turn ∷ []) self.old →
             OnOk result (NotesSent tested (before ++ turn ∷ []) bytes.now self.old.pings self.new.pings) }
     {
+        session_laws();
         let number = self.turns.saturating_sub(1);
         take_watched(
             Way::Sent,
@@ -102,12 +109,8 @@ impl RunEvidence {
             &mut self.unanswered,
         )?;
         self.pairing.take_due(&self.sent.collected.replies.fresh)?;
+        self.last_ping.note_due(&self.sent.collected.replies.fresh)?;
         self.sent.collected.replies.hand_on();
-        self.got
-            .collected
-            .replies
-            .tally
-            .want(&self.sent.collected.replies.tally);
         Ok(())
     }
 
@@ -125,6 +128,7 @@ impl RunEvidence {
         // Nothing is told of what comes after a close or a fault.
         ensures over { is_over self.old.tester.status ≡ true → self.new.tester ≡ self.old.tester }
     {
+        session_laws();
         let turn = self.turns.saturating_sub(1);
         let has_progress = take_watched(
             Way::Got,
@@ -135,6 +139,7 @@ impl RunEvidence {
             &mut self.unanswered,
         )?;
         self.pairing.take_got(&self.got.collected.replies.fresh)?;
+        self.last_ping.note_got(&self.got.collected.replies.fresh)?;
         self.got.collected.replies.hand_on();
         if has_progress {
             return Ok(true);
@@ -184,25 +189,20 @@ impl RunEvidence {
     }
 
     /// Whether what a turn is waited for has come, by what is expected of the tested end: of an echo as `is_answered`
-    /// tells it; by the protocol, under which no message is owed, that the last ping that was sent is answered, if
-    /// there is one. It takes the same time and the same memory whatever went over the connection: so of the pongs that
-    /// were got it knows the last one, and whether one of those that came since that ping was sent answers it. Pongs of
-    /// the tested end's own before and behind it change nothing. One pong isn't seen: that with the same payload that
-    /// came in the same turn before the ping, and behind which others came.
+    /// tells it; by the protocol, under which no message is owed, whether the last ping that was sent is answered, if
+    /// there is one: by a pong with its payload of no earlier turn than its own. Other pongs before and behind that one
+    /// change nothing. It takes the same time whatever went over the connection.
     pub fn is_answered_by(&self, expected: Expectation) -> bool
         ensures seen { (tested : Role) (turns : List Turn) → HasGrown tested turns self.now →
-            AreTurnsSeenAnswered expected tested turns → IsTrue result }
+            IsTrue result ↔ AreTurnsSeenAnswered expected tested turns }
         ensures answered { (tested : Role) (turns : List Turn) → HasGrown tested turns self.now →
             result ≡ true → AreTurnsAnsweredBy expected tested turns }
-        ensures kept { IsTrue result
-            ↔ AnswersTallyBy expected self.now.due.replies.tally self.now.got.replies.tally }
     {
         session_laws();
-        self.got
-            .collected
-            .replies
-            .tally
-            .answers_by(expected, &self.sent.collected.replies.tally)
+        match expected {
+            Expectation::Echo => self.is_answered(),
+            Expectation::Protocol => self.last_ping.is_answered(),
+        }
     }
 
     /// Whether what an echo owes for these turns can't come any more: the messages that were got are no beginning of

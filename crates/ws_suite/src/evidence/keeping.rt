@@ -3,16 +3,15 @@
 ghost use Rattle.std.specs.Prelude.{◌≡◌, ◌↔◌, [], ◌∷◌, ◌++◌, List, IsTrue, None, OnOk, Some};
 ghost use Rattle.ws_suite.specs.declared.evidence.InTurn.{InTurn};
 ghost use Rattle.ws_suite.specs.declared.evidence.Reply.{Reply};
-ghost use Rattle.ws_suite.specs.Growing.{AnswersTally, IsAnsweredPong, IsTallyOf, IsWantedFrom, IsWantedStill};
+ghost use Rattle.ws_suite.specs.Growing.{AnswersTally, IsAnsweredPong, IsTallyOf};
 ghost use Rattle.ws_suite.specs.Kept.{reply_in};
 ghost use Rattle.ws_suite.specs.InnerTally.{pong_of};
-ghost use Rattle.ws_suite.specs.Waiting.{AnswersTallyBy};
+ghost use Rattle.ws_suite.specs.LastPings.{answers_due};
 
 use crate::evidence::{Kept, Replies, ReplyKind};
 use std::alloc::Global;
 use std::marker::Model;
 use ws_base::NoMemory;
-use ws_scripts::Expectation;
 use ws_text::{ControlBytes, MAX_CONTROL_PAYLOAD};
 
 /// Keeps the replies of a direction, which are told one after the other, or as much of them as will be asked about.
@@ -89,14 +88,12 @@ impl RunReplies {
     }
 }
 
-/// How many messages there are, the last pong, and whether the pong that is wanted has come since it is: all that is
-/// asked to tell whether what is due has come. It takes the same memory however many replies there are.
+/// How many messages there are, and the last pong: all that is asked to tell whether what an echo owes has come. It
+/// takes the same memory however many replies there are.
 #[derive(Drop)]
 pub(crate) struct ReplyTally {
     pub(crate) messages: u64,
     pub(crate) last_pong: LastPong,
-    pub(crate) wanted: LastPong,
-    pub(crate) has_wanted: bool,
 }
 
 impl ReplyTally {
@@ -107,16 +104,13 @@ impl ReplyTally {
         ReplyTally {
             messages: 0,
             last_pong: LastPong::none(),
-            wanted: LastPong::none(),
-            has_wanted: false,
         }
     }
 
     /// One more reply is told.
     fn keep(&mut self, reply: Kept<'_>) -> Result<(), NoMemory>
-        ensures tally { OnOk result ((replies : List (InTurn Reply)) → IsTallyOf self.old replies →
+        ensures { OnOk result ((replies : List (InTurn Reply)) → IsTallyOf self.old replies →
             IsTallyOf self.new (replies ++ reply_in reply.entry ∷ [])) }
-        ensures wanted { OnOk result (IsWantedStill (reply_in reply.entry) self.old self.new) }
     {
         match reply.kind {
             ReplyKind::Text | ReplyKind::Binary => {
@@ -126,27 +120,10 @@ impl ReplyTally {
                 };
                 self.messages = messages;
             }
-            ReplyKind::Pong => {
-                self.last_pong.keep(reply.turn, reply.payload)?;
-                if self.last_pong.answers(&self.wanted) {
-                    self.has_wanted = true;
-                }
-            }
+            ReplyKind::Pong => self.last_pong.keep(reply.turn, reply.payload)?,
             ReplyKind::Ping => {}
         }
         Ok(())
-    }
-
-    /// These replies are due by now: from here on the last of their pongs is looked for.
-    pub(crate) fn want(&mut self, due: &ReplyTally)
-        ensures tally { (replies : List (InTurn Reply)) → IsTallyOf self.old replies → IsTallyOf self.new replies }
-        ensures wanted { IsWantedFrom due.now self.old self.new }
-    {
-        // A pong with the same payload of no later turn is wanted already.
-        if !self.wanted.answers(&due.last_pong) {
-            self.wanted = due.last_pong.copied();
-            self.has_wanted = false;
-        }
     }
 
     /// Whether these replies answer the due ones: there are no fewer messages, and the last due pong is there.
@@ -154,20 +131,6 @@ impl ReplyTally {
         ensures { IsTrue result ↔ AnswersTally due.now self.now }
     {
         self.messages >= due.messages && self.last_pong.answers(&due.last_pong)
-    }
-
-    /// Whether these replies are what is waited for: what an echo owes, or by the protocol the last due pong alone, be
-    /// it the last that is there or one that came since it is wanted.
-    pub(crate) fn answers_by(&self, expected: Expectation, due: &ReplyTally) -> bool
-        ensures { IsTrue result ↔ AnswersTallyBy expected due.now self.now }
-    {
-        match expected {
-            Expectation::Echo => self.answers(due),
-            Expectation::Protocol => {
-                self.last_pong.answers(&due.last_pong)
-                    || (self.has_wanted && self.wanted.answers(&due.last_pong))
-            }
-        }
     }
 }
 
@@ -191,7 +154,7 @@ impl Model for LastPong {
 
 impl LastPong {
     /// There is none.
-    fn none() -> LastPong
+    pub(super) fn none() -> LastPong
         ensures { result ≡ None }
     {
         LastPong {
@@ -200,18 +163,8 @@ impl LastPong {
         }
     }
 
-    /// The same.
-    fn copied(&self) -> LastPong
-        ensures { result ≡ self.now }
-    {
-        LastPong {
-            turn: self.turn,
-            payload: self.payload,
-        }
-    }
-
     /// One more pong has come.
-    fn keep(&mut self, turn: usize, payload: &[u8]) -> Result<(), NoMemory>
+    pub(super) fn keep(&mut self, turn: usize, payload: &[u8]) -> Result<(), NoMemory>
         ensures { OnOk result (self.new ≡ Some (pong_of turn payload.now)) }
     {
         // No pong has a longer payload.
@@ -233,6 +186,16 @@ impl LastPong {
             (Some(due_turn), Some(turn)) => {
                 self.payload.as_slice() == due.payload.as_slice() && due_turn <= turn
             }
+        }
+    }
+
+    /// Whether this pong, which was got, answers the last due one, if there is one.
+    pub(super) fn is_answered_by(&self, pong: &Kept<'_>) -> bool
+        ensures { result ≡ answers_due self.now (reply_in pong.now) }
+    {
+        match self.turn {
+            None => true,
+            Some(turn) => self.payload.as_slice() == pong.payload && turn <= pong.turn,
         }
     }
 }

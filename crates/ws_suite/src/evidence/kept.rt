@@ -1,7 +1,8 @@
 //! Replies that take little room: their payloads stand one behind the other, and each reply has a small head.
 
-ghost use Rattle.std.specs.Prelude.{◌≡◌, ◌↔◌, ◌≤◌, ◌∷◌, ◌++◌, [], length, IfOk, IsTrue, OnErr, OnOk};
+ghost use Rattle.std.specs.Prelude.{◌≡◌, ◌↔◌, ◌≤◌, ◌∷◌, ◌++◌, ◌&&◌, [], filter, length, IfOk, IsTrue, OnErr, OnOk};
 ghost use Rattle.ws_suite.specs.InnerAnswered.{AreAnsweredEach, AreHeadsAnswered};
+ghost use Rattle.ws_suite.specs.InnerMarks.{is_pong_before, is_pong_kind, is_turn_before, joined_payloads};
 ghost use Rattle.ws_suite.specs.Kept.{first_of, reply_in, turn_in, what_of, IsHeadOf};
 
 use std::alloc::Global;
@@ -123,6 +124,21 @@ impl Replies {
             && due.payloads.as_slice() == self.payloads.as_slice()
     }
 
+    /// Of them the pongs of turns before this one, or all pongs. Their heads go together in the room that they have,
+    /// and only their payloads are copied.
+    pub(crate) fn pongs_before(self, alloc: Global, end: Option<usize>) -> Result<Replies, NoMemory>
+        ensures { IfOk result (λ pongs. pongs ≡ filter (is_pong_before end) self) }
+    {
+        let payloads = pong_payloads(alloc, self.iter(), end)?;
+        let Replies { heads, payloads: _ } = self;
+        let mut kept = heads;
+        kept.retain(|head| is_pong_before(head.kind, head.turn(), end));
+        Ok(Replies {
+            heads: kept,
+            payloads,
+        })
+    }
+
     /// The replies, one after the other.
     pub fn iter(&self) -> Walk<'_>
         ensures { result ≡ self.now }
@@ -131,6 +147,37 @@ impl Replies {
             heads: self.heads.as_slice(),
             payloads: self.payloads.as_slice(),
         }
+    }
+}
+
+/// The payloads of the pongs of turns before this one, or of all pongs, one behind the other.
+fn pong_payloads(alloc: Global, replies: Walk<'_>, end: Option<usize>) -> Result<Vec<u8>, NoMemory>
+    ensures { IfOk result (λ bytes. bytes.items ≡ joined_payloads (filter (is_pong_before end) replies.entry)) }
+{
+    let mut left = replies;
+    let mut payloads = Vec::new(alloc);
+    while let Some(reply) = left.next() {
+        if is_pong_before(reply.kind, reply.turn, end) {
+            payloads.extend_from_slice(reply.payload)?;
+        }
+    }
+    Ok(payloads)
+}
+
+/// Whether a reply of this kind and turn is a pong of a turn before this one.
+fn is_pong_before(kind: ReplyKind, turn: usize, end: Option<usize>) -> bool
+    ensures { result ≡ (is_pong_kind kind && is_turn_before end turn) }
+{
+    are_one_kind(kind, ReplyKind::Pong) && is_turn_before(end, turn)
+}
+
+/// Whether a turn is before another one, if there is such.
+pub(crate) fn is_turn_before(end: Option<usize>, turn: usize) -> bool
+    ensures { result ≡ is_turn_before end turn }
+{
+    match end {
+        Some(end) => turn < end,
+        None => true,
     }
 }
 

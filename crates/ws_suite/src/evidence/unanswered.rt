@@ -1,4 +1,4 @@
-//! The pings that were sent and aren't answered yet (RFC 6455 section 5.5.3).
+//! The payloads of pings that were sent and aren't answered yet, or of pongs that were got (RFC 6455 section 5.5.3).
 
 ghost use Rattle.std.specs.Prelude.{◌≡◌, ◌++◌, ◌∷◌, [], OnErr, OnOk};
 ghost use Rattle.ws_suite.specs.InnerUnanswered.{fingerprint};
@@ -15,16 +15,17 @@ use std::hash::{DefaultHasher, Hasher};
 use std::marker::Model;
 use ws_base::NoMemory;
 
-/// The payloads of the pings that aren't answered yet, in the order in which they were sent, and how many of them have
-/// each fingerprint: so a pong that isn't owed is mostly known by its fingerprint alone. Contracts see their list.
+/// Payloads of pings or of pongs in their order, and how many of them have each fingerprint: so one that isn't there is
+/// mostly known by its fingerprint alone. Contracts see their list.
 #[derive(Drop)]
-pub(super) struct UnansweredPings {
+pub(crate) struct ControlPayloads {
+    alloc: Global,
     payloads: PackedPayloads,
     /// At least as many as there are: there may be more after `NoMemory`.
     prints: Prints,
 }
 
-impl Model for UnansweredPings {
+impl Model for ControlPayloads {
     ghost use Rattle.std.specs.Prelude.{◌≤◌, List, ℕ};
     ghost use Rattle.ws_suite.specs.InnerUnanswered.{print_count, with_print};
 
@@ -35,18 +36,19 @@ impl Model for UnansweredPings {
     ghost invariant = { λ x. (print : ℕ) → with_print print x.payloads ≤ print_count x.prints print };
 }
 
-impl UnansweredPings {
-    /// No ping was sent.
-    pub(super) fn new(alloc: Global) -> UnansweredPings
+impl ControlPayloads {
+    /// No payload.
+    pub(super) fn new(alloc: Global) -> ControlPayloads
         ensures { result ≡ [] }
     {
-        UnansweredPings {
+        ControlPayloads {
+            alloc,
             payloads: PackedPayloads::new(alloc),
             prints: BTreeMap::new(alloc),
         }
     }
 
-    /// One more ping was sent.
+    /// One more, behind the others.
     pub(super) fn add(&mut self, payload: &[u8]) -> Result<(), NoMemory>
         ensures ok { OnOk result (self.new ≡ self.old ++ payload.now ∷ []) }
         ensures err { OnErr result (self.new ≡ self.old) }
@@ -55,8 +57,27 @@ impl UnansweredPings {
         self.payloads.push(payload)
     }
 
-    /// A pong was got: whether it is owed. It answers the first ping with its payload, which most often is the first of
-    /// all.
+    /// None is there any more. Their memory is given back.
+    pub(super) fn clear(&mut self)
+        ensures { self.new ≡ [] }
+    {
+        self.payloads = PackedPayloads::new(self.alloc);
+        self.prints = BTreeMap::new(self.alloc);
+    }
+
+    /// Whether this one is there.
+    pub(super) fn contains(&self, payload: &[u8]) -> bool
+        ensures { result ≡ is_pong_owed payload.now self.now }
+    {
+        let print = fingerprint(payload);
+        if !is_counted(&self.prints, print) {
+            return false;
+        }
+        self.payloads.contains(payload)
+    }
+
+    /// A pong was got, and these are the pings that aren't answered yet: whether it is owed. It answers the first with
+    /// its payload, which most often is the first of all.
     pub(super) fn answer(&mut self, payload: &[u8]) -> bool
         ensures owed { result ≡ is_pong_owed payload.now self.old }
         ensures left { self.new ≡ without_ping payload.now self.old }

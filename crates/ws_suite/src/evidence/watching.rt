@@ -14,7 +14,7 @@ ghost use Rattle.ws_suite.specs.Progress.{after_pongs, has_progress, with_pings}
 
 use crate::evidence::KeepsReplies;
 use crate::evidence::collecting::{Rooms, Taken, Way, take_front};
-use crate::evidence::unanswered::UnansweredPings;
+use crate::evidence::unanswered::ControlPayloads;
 use crate::lemmas::session_laws;
 use ws_base::NoMemory;
 use ws_parts::cut_part;
@@ -28,7 +28,7 @@ pub(super) fn take_watched<K: KeepsReplies>(
     piece: &[u8],
     rooms: &mut Rooms,
     taken: &mut Taken<K>,
-    pings: &mut UnansweredPings,
+    pings: &mut ControlPayloads,
 ) -> Result<bool, NoMemory>
     ensures taken { (handed : List (InTurn Reply)) (role : Role) (turns : List (List ℕ)) (last : List ℕ) →
         number ≡ length turns →
@@ -58,7 +58,7 @@ fn take_watched_part<K: KeepsReplies>(
     part: &[u8],
     rooms: &mut Rooms,
     taken: &mut Taken<K>,
-    pings: &mut UnansweredPings,
+    pings: &mut ControlPayloads,
 ) -> Result<bool, NoMemory>
     ensures taken { (handed : List (InTurn Reply)) (role : Role) (turns : List (List ℕ)) (last : List ℕ) →
         number ≡ length turns →
@@ -93,7 +93,7 @@ fn note(
     way: Way,
     event: Option<EventKind>,
     payload: &[u8],
-    pings: &mut UnansweredPings,
+    pings: &mut ControlPayloads,
     before: bool,
 ) -> Result<bool, NoMemory>
     ensures pings { OnOk result (pings.new
@@ -114,7 +114,7 @@ fn note(
 }
 
 /// Notes an event that was sent: a ping isn't answered yet.
-fn note_sent(event: EventKind, payload: &[u8], pings: &mut UnansweredPings) -> Result<(), NoMemory>
+fn note_sent(event: EventKind, payload: &[u8], pings: &mut ControlPayloads) -> Result<(), NoMemory>
     ensures { OnOk result (pings.new ≡ with_pings pings.old (event_in event payload.now ∷ [])) }
 {
     match event {
@@ -131,7 +131,7 @@ fn note_sent(event: EventKind, payload: &[u8], pings: &mut UnansweredPings) -> R
 }
 
 /// Notes an event that was got: whether it is progress. A pong is where it is owed.
-fn note_got(event: EventKind, payload: &[u8], pings: &mut UnansweredPings) -> bool
+fn note_got(event: EventKind, payload: &[u8], pings: &mut ControlPayloads) -> bool
     ensures pings { pings.new ≡ after_pongs pings.old (event_in event payload.now ∷ []) }
     ensures progress { result ≡ has_progress pings.old (event_in event payload.now ∷ []) }
 {

@@ -1,21 +1,23 @@
 //! The pongs that RFC 6455 asks of any end (sections 5.5.2 and 5.5.3): for the pings that it was sent in an earlier
 //! turn than what ends the connection, at the latest for the last of them.
 
-ghost use Rattle.std.specs.Prelude.{◌≡◌, ◌&&◌, ◌++◌, nat_le, IfOk, List, OnOk, false, true};
-ghost use Rattle.std.specs.List.{list_any};
+ghost use Rattle.std.specs.Prelude.{◌≡◌, ◌&&◌, ◌++◌, ◌∷◌, [], ℕ, nat_lt, IfOk, List, OnOk, false, true};
 ghost use Rattle.ws_suite.specs.declared.evidence.InTurn.{InTurn};
 ghost use Rattle.ws_suite.specs.declared.evidence.Reply.{Reply};
 ghost use Rattle.ws_suite.specs.InnerMarks.{AreMet, AreLastTurns, AreOwedFindings, counted_of, is_answered_by};
-ghost use Rattle.ws_suite.specs.InnerMarks.{latest};
+ghost use Rattle.ws_suite.specs.InnerMarks.{is_turn_before};
+ghost use Rattle.ws_suite.specs.InnerNoted.{IsAskedFor};
 ghost use Rattle.ws_suite.specs.Kept.{first_of, reply_in};
-ghost use Rattle.ws_suite.specs.Matching.{due_pongs, got_pongs, has_payload_of};
-ghost use Rattle.ws_suite.specs.Protocol.{close_of, is_before_end, is_owed, owed_pongs};
+ghost use Rattle.ws_suite.specs.Matching.{due_pongs, got_pongs};
+ghost use Rattle.ws_suite.specs.Protocol.{close_of, is_before_end, is_owed};
 
-use crate::evidence::{Ending, Evidence, InTurn, Kept, MarkedEvidence, Replies, is_close_ending};
+use crate::evidence::{
+    Ending, Evidence, InTurn, Kept, MarkedEvidence, is_close_ending, is_turn_before,
+};
 use crate::judging::chosen::{Chosen, Wanted};
 use crate::judging::in_step::either;
+use crate::judging::noted::{Noted, how_many};
 use std::alloc::Global;
-use std::collections::BTreeMap;
 use ws_base::NoMemory;
 
 /// What comes of the pings that had to be answered.
@@ -27,9 +29,6 @@ pub(super) struct OwedPongs {
     pub skips_one: bool,
 }
 
-/// The last turn in which a pong of each payload was got.
-type LastTurns<'a> = BTreeMap<&'a [u8], usize>;
-
 /// Which pings had to be answered, and whether they were. Each is looked up once.
 pub(super) fn owed_pongs(alloc: Global, marked: &MarkedEvidence) -> Result<OwedPongs, NoMemory>
     ensures { IfOk result (λ found. AreOwedFindings (counted_of marked.now) found) }
@@ -38,10 +37,13 @@ pub(super) fn owed_pongs(alloc: Global, marked: &MarkedEvidence) -> Result<OwedP
     if are_all_met(x) {
         return Ok(all_met());
     }
-    let mut turns = BTreeMap::new(alloc);
-    note_turns(&mut turns, Chosen::among(&x.got.replies, Wanted::Pongs))?;
-    note_turns(&mut turns, Chosen::among(&marked.behind, Wanted::Pongs))?;
     let mut pings = Chosen::among(&x.due.replies, Wanted::Pongs);
+    let turns = last_turns(
+        alloc,
+        pings.again(),
+        Chosen::among(&x.got.replies, Wanted::Pongs),
+        Chosen::among(&marked.behind, Wanted::Pongs),
+    )?;
     let mut lacks_last = false;
     let mut skips_one = false;
     let mut later_is_answered = false;
@@ -107,78 +109,101 @@ fn is_met(ping: &Kept<'_>, pong: &Option<Kept<'_>>) -> bool
     }
 }
 
-/// The pongs for the pings that had to be answered.
-pub(crate) fn owed_among(alloc: Global, x: &Evidence) -> Result<Replies, NoMemory>
-    ensures { IfOk result (λ owed. owed ≡ owed_pongs x.now) }
+/// The last turn in which a pong of each payload was got, before the close or behind it, as far as the payloads are
+/// those of these pings.
+fn last_turns<'a>(
+    alloc: Global,
+    pings: Chosen<'a>,
+    got: Chosen<'a>,
+    behind: Chosen<'a>,
+) -> Result<Noted<'a>, NoMemory>
+    ensures last { IfOk result (AreLastTurns (got.entry ++ behind.entry)) }
+    ensures asked { IfOk result (IsAskedFor pings.entry) }
 {
-    let mut pings = Chosen::among(&x.due.replies, Wanted::Pongs);
-    let mut owed = Replies::new(alloc);
-    while let Some(ping) = pings.next() {
-        if is_owed(x, ping.turn) {
-            owed.push(ping)?;
-        }
-    }
-    Ok(owed)
+    let coming = how_many(got.again()).saturating_add(how_many(behind.again()));
+    let mut turns = Noted::asked(alloc, pings, coming)?;
+    note_turns(&mut turns, got)?;
+    note_turns(&mut turns, behind)?;
+    Ok(turns)
 }
 
 /// These pongs came too: their turns are noted.
-fn note_turns<'a>(turns: &mut LastTurns<'a>, pongs: Chosen<'a>) -> Result<(), NoMemory>
-    ensures { OnOk result ((gots : List (InTurn Reply)) → AreLastTurns gots turns.old
+fn note_turns<'a>(turns: &mut Noted<'a>, pongs: Chosen<'a>) -> Result<(), NoMemory>
+    ensures last { OnOk result ((gots : List (InTurn Reply)) → AreLastTurns gots turns.old
         → AreLastTurns (gots ++ pongs.entry) turns.new) }
+    ensures asked { OnOk result ((pings : List (InTurn Reply)) → IsAskedFor pings turns.old
+        → IsAskedFor pings turns.new) }
 {
     let mut left = pongs;
     while let Some(pong) = left.next() {
-        let last = latest(pong.turn, turns.get(&pong.payload).copied());
-        turns.insert(pong.payload, last)?;
+        turns.note(pong.payload, pong.turn)?;
     }
     Ok(())
 }
 
-/// The later of two turns, where there is another one.
-fn latest(turn: usize, other: Option<usize>) -> usize
-    ensures { result ≡ latest turn other }
+/// Whether a pong with the payload of this ping, which was asked for, was got in no earlier turn.
+fn is_answered<'a>(ping: &Kept<'a>, turns: &Noted<'a>) -> bool
+    ensures { (gots : List (InTurn Reply)) → AreLastTurns gots turns.now → IsAskedFor (reply_in ping.now ∷ []) turns.now
+        → result ≡ is_answered_by gots (reply_in ping.now) }
 {
-    match other {
-        Some(other) => turn.max(other),
-        None => turn,
-    }
+    turns.reaches(ping.payload, ping.turn)
 }
 
-/// Whether a pong with the payload of this ping was got in no earlier turn.
-fn is_answered<'a>(ping: &Kept<'a>, turns: &LastTurns<'a>) -> bool
-    ensures { (gots : List (InTurn Reply)) → AreLastTurns gots turns.now → result ≡
-        list_any (λ got. has_payload_of got (reply_in ping.now) && nat_le ping.now.turn got.turn) gots }
-{
-    match turns.get(&ping.payload) {
-        Some(last) => ping.turn <= *last,
-        None => false,
-    }
-}
-
-/// Whether a ping of this turn has to be answered: neither the close or the fault that was sent nor the close that was
-/// got is of this turn or an earlier one.
+/// Whether a ping of this turn has to be answered.
 fn is_owed(x: &Evidence, turn: usize) -> bool
     ensures { (pong : InTurn Reply) → pong.turn ≡ turn → result ≡ is_owed x.now pong }
 {
-    is_before(turn, &x.due.ending) && is_before_close(turn, &x.got.ending)
+    is_turn_before(end_of_owed(x), turn)
 }
 
-/// Whether a turn is before the one of what ends a direction, if there is such.
-fn is_before(turn: usize, ending: &Option<InTurn<Ending>>) -> bool
-    ensures { (pong : InTurn Reply) → pong.turn ≡ turn → result ≡ is_before_end ending.now pong }
+/// The first turn in which a ping needn't be answered, if there is one: that of the close or the fault that was sent,
+/// or of the close that was got.
+pub(crate) fn end_of_owed(x: &Evidence) -> Option<usize>
+    ensures { (pong : InTurn Reply) → is_turn_before result pong.turn ≡ is_owed x.now pong }
+{
+    first_turn(ending_turn(&x.due.ending), close_turn(&x.got.ending))
+}
+
+/// The turn of what ends a direction, if there is such.
+fn ending_turn(ending: &Option<InTurn<Ending>>) -> Option<usize>
+    ensures { (pong : InTurn Reply) → is_turn_before result pong.turn ≡ is_before_end ending.now pong }
 {
     match ending {
-        Some(ending) => turn < ending.turn,
-        None => true,
+        Some(ending) => Some(ending.turn),
+        None => None,
     }
 }
 
-/// Whether a turn is before that of a close, if there is one.
-fn is_before_close(turn: usize, ending: &Option<InTurn<Ending>>) -> bool
-    ensures { (pong : InTurn Reply) → pong.turn ≡ turn → result ≡ is_before_end (close_of ending.now) pong }
+/// The turn of a close, if there is one.
+fn close_turn(ending: &Option<InTurn<Ending>>) -> Option<usize>
+    ensures { (pong : InTurn Reply) → is_turn_before result pong.turn ≡ is_before_end (close_of ending.now) pong }
 {
     match ending {
-        Some(ending) => !is_close_ending(&ending.what) || turn < ending.turn,
-        None => true,
+        Some(ending) => {
+            if is_close_ending(&ending.what) {
+                Some(ending.turn)
+            } else {
+                None
+            }
+        }
+        None => None,
     }
+}
+
+/// The first of two turns, as far as there are any.
+fn first_turn(one: Option<usize>, other: Option<usize>) -> Option<usize>
+    ensures { (turn : ℕ) → is_turn_before result turn ≡ (is_turn_before one turn && is_turn_before other turn) }
+{
+    match (one, other) {
+        (Some(one), Some(other)) => Some(earlier(one, other)),
+        (Some(one), None) => Some(one),
+        (None, other) => other,
+    }
+}
+
+/// The earlier of two turns: what is before it is before both.
+fn earlier(one: usize, other: usize) -> usize
+    ensures { (turn : ℕ) → nat_lt turn result ≡ (nat_lt turn one && nat_lt turn other) }
+{
+    one.min(other)
 }

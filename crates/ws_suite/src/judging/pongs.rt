@@ -1,6 +1,6 @@
 //! Pongs and the pings that they answer (RFC 6455 section 5.5.3).
 
-ghost use Rattle.std.specs.Prelude.{◌≡◌, ◌↔◌, ◌+◌, ◌≤◌, List, IfOk, IsTrue, None, drop, false, find};
+ghost use Rattle.std.specs.Prelude.{◌≡◌, ◌↔◌, ◌+◌, ◌≤◌, List, IfOk, IsTrue, None, OnOk, drop, false, find};
 ghost use Rattle.std.specs.Prelude.{length, true};
 ghost use Rattle.std.specs.List.{list_any};
 ghost use Rattle.ws_suite.specs.declared.evidence.InTurn.{InTurn};
@@ -14,9 +14,9 @@ ghost use Rattle.ws_suite.specs.Verdicts.{is_before_match, is_unmatched};
 use crate::evidence::{Kept, is_same};
 use crate::judging::chosen::Chosen;
 use crate::judging::in_step::{either, match_in_step};
+use crate::judging::noted::{Noted, how_many};
 use crate::judging::replies::is_any;
 use std::alloc::Global;
-use std::collections::BTreeMap;
 use ws_base::NoMemory;
 
 /// What comes of the matching: each got pong with the first due pong after the last one matched that has its payload.
@@ -29,10 +29,10 @@ pub(super) struct Matched {
 }
 
 /// Matches the pongs from the front: those that come in step, and then the others, if there are any.
-pub(super) fn match_pongs(
+pub(super) fn match_pongs<'a>(
     alloc: Global,
-    due: Chosen<'_>,
-    got: Chosen<'_>,
+    due: Chosen<'a>,
+    got: Chosen<'a>,
 ) -> Result<Matched, NoMemory>
     ensures early { IfOk result (λ matched.
         matched.is_early ≡ list_any is_before_match (matches_of due.entry got.entry)) }
@@ -55,13 +55,13 @@ pub(super) fn match_pongs(
 
 /// Matches the pongs from the front. Only a pong that has a match goes over those that are due, up to its match: so
 /// each due pong is passed once.
-fn match_others(alloc: Global, due: Chosen<'_>, got: Chosen<'_>) -> Result<Matched, NoMemory>
+fn match_others<'a>(alloc: Global, due: Chosen<'a>, got: Chosen<'a>) -> Result<Matched, NoMemory>
     ensures early { IfOk result (λ matched.
         matched.is_early ≡ list_any is_before_match (matches_of due.entry got.entry)) }
     ensures unmatched { IfOk result (λ matched.
         matched.is_unmatched ≡ list_any is_unmatched (matches_of due.entry got.entry)) }
 {
-    let places = last_places(alloc, due.again())?;
+    let places = last_places(alloc, due.again(), got.again())?;
     let _most = due.most();
     let mut left = due;
     let mut got_left = got;
@@ -82,33 +82,35 @@ fn match_others(alloc: Global, due: Chosen<'_>, got: Chosen<'_>) -> Result<Match
     })
 }
 
-/// The place at which each payload stands last among pongs.
-type LastPlaces<'a> = BTreeMap<&'a [u8], usize>;
-
-/// Where the payloads of the due pongs stand last.
-fn last_places<'a>(alloc: Global, due: Chosen<'a>) -> Result<LastPlaces<'a>, NoMemory>
+/// Where the payloads of the due pongs stand last, as far as they are those of got ones.
+fn last_places<'a>(alloc: Global, due: Chosen<'a>, got: Chosen<'a>) -> Result<Noted<'a>, NoMemory>
     ensures { IfOk result (λ places. AreLastPlaces due.entry places) }
 {
-    let _most = due.most();
-    let mut left = due;
-    let mut places = BTreeMap::new(alloc);
-    let mut place = 0;
-    while let Some(pong) = left.next() {
-        places.insert(pong.payload, place)?;
-        place += 1;
-    }
+    let mut places = Noted::asked(alloc, got, how_many(due.again()))?;
+    note_places(&mut places, due)?;
     Ok(places)
 }
 
-/// Whether a due pong with the payload of this one stands at this place or after it.
-fn is_left<'a>(pong: &Kept<'a>, places: &LastPlaces<'a>, next: usize) -> bool
+/// The places of these pongs are noted.
+fn note_places<'a>(places: &mut Noted<'a>, due: Chosen<'a>) -> Result<(), NoMemory>
+    ensures { OnOk result (AreLastPlaces due.entry places.new) }
+{
+    let _most = due.most();
+    let mut left = due;
+    let mut place = 0;
+    while let Some(pong) = left.next() {
+        places.note(pong.payload, place)?;
+        place += 1;
+    }
+    Ok(())
+}
+
+/// Whether a due pong with the payload of this one may stand at this place or after it.
+fn is_left<'a>(pong: &Kept<'a>, places: &Noted<'a>, next: usize) -> bool
     ensures { (due : List (InTurn Reply)) → AreLastPlaces due places.now → result ≡ false
         → find (has_payload_of (reply_in pong.now)) (drop next due) ≡ None }
 {
-    match places.get(&pong.payload) {
-        Some(last) => next <= *last,
-        None => false,
-    }
+    places.reaches(pong.payload, next)
 }
 
 /// What comes of one pong.

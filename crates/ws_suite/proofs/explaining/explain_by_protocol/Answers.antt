@@ -8,6 +8,7 @@ use Rattle.ws_suite.specs.InnerJudging.{without_pings}
 use Rattle.ws_suite.specs.InnerMarks.{counted_of}
 use Rattle.ws_suite.specs.Marks.{CountsUndefinedCode}
 use Rattle.ws_suite.proofs.CountedLemmas.{closed_without}
+use Rattle.ws_suite.proofs.OwedLemmas.{owed_before}
 use Rattle.ws_suite.proofs.TellingLemmas.{counted_without, told_is_evidence}
 use Rattle.ws_suite.proofs.explaining.explain_by_protocol.Goals as goal
 
@@ -39,7 +40,8 @@ returns c =
         are_marks = marked.ensures.4;
       };
       is_verdict = c.in_ok-verdict.ensures;
-      owed = c.in_ok-owed.ensures;
+      owed = c.in_ok-owed.ensures ∙ owed_before marked.marked.evidence c.end_of_owed-end.result c.end_of_owed-end.ensures
+          marked.marked.evidence.due.replies;
       due_ending = refl;
       due_rest = refl;
       told = told.told.evidence.got;

@@ -1,4 +1,4 @@
-//! Payloads of pings that take little room: their bytes stand one behind the other.
+//! Payloads of pings or pongs that take little room: their bytes stand one behind the other.
 
 ghost use Rattle.std.specs.Prelude.{◌≡◌, ◌≤◌, ◌+◌, ◌++◌, ◌∷◌, [], IfNone, IfSome, OnErr, OnOk, bytes_eq, drop, false};
 ghost use Rattle.std.specs.Prelude.{length, sum};
@@ -11,7 +11,7 @@ use std::collections::VecDeque;
 use std::marker::Model;
 use ws_base::NoMemory;
 
-/// Payloads in their order, most of which are taken out from the front. Contracts see their list.
+/// Payloads in their order, which may be taken out, most from the front. Contracts see their list.
 #[derive(Drop)]
 pub(super) struct PackedPayloads {
     lens: VecDeque<u8>,
@@ -55,7 +55,7 @@ impl PackedPayloads {
         ensures ok { OnOk result (self.new ≡ self.old ++ payload.now ∷ []) }
         ensures err { OnErr result (self.new ≡ self.old) }
     {
-        // No ping has a longer payload than 125 bytes.
+        // No ping or pong has a longer payload than 125 bytes.
         let Ok(len) = u8::try_from(payload.len()) else {
             return Err(NoMemory);
         };
@@ -63,6 +63,17 @@ impl PackedPayloads {
         self.bytes.extend_from_slice(payload)?;
         self.lens.push_back_reserved(len);
         Ok(())
+    }
+
+    /// Whether this one is there.
+    pub(super) fn contains(&self, payload: &[u8]) -> bool
+        ensures { result ≡ is_pong_owed payload.now self.now }
+    {
+        let there = &self.bytes.as_slice()[self.gone..];
+        match place_of(&self.lens, there, payload) {
+            Some(_) => true,
+            None => false,
+        }
     }
 
     /// Takes out the first that is this one, if there is one.

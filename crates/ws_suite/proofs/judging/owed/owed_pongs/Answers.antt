@@ -4,12 +4,13 @@ use Rattle.std.proofs.Common.{append_assoc, append-nil}
 use Rattle.ws_suite.specs.declared.evidence.InTurn.{InTurn}
 use Rattle.ws_suite.specs.declared.evidence.Reply.{Reply}
 use Rattle.ws_suite.specs.declared.judging.owed.OwedPongs.{OwedPongs}
-use Rattle.ws_suite.specs.InnerMarks.{AreLastTurns, counted_of}
+use Rattle.ws_suite.specs.InnerMarks.{counted_of}
+use Rattle.ws_suite.specs.InnerNoted.{IsAskedFor}
 use Rattle.ws_suite.specs.Kept.{reply_in}
 use Rattle.ws_suite.specs.Matching.{due_pongs, got_pongs}
 use Rattle.ws_suite.specs.Protocol.{is_answered, is_owed}
 use Rattle.ws_suite.proofs.CountedPongs.{counted_turns, met_counted}
-use Rattle.ws_suite.proofs.LastTurns.{no_turns}
+use Rattle.ws_suite.proofs.NotedLemmas.{asked_at}
 use Rattle.ws_suite.proofs.OwedLemmas.{AreSoFar, found_of_all, found_of_met, later_more, none_so_far, owed_more}
 use Rattle.ws_suite.proofs.judging.owed.owed_pongs.Goals as goal
 use Rattle.ws_suite.proofs.judging.owed.owed_pongs.Goals.{then-lacks_last, else-lacks_last}
@@ -25,10 +26,13 @@ loop-ping-preserved-then-is_owed c =
     let first = reply_in ping in
     let answered = c.is_answered-is_answered.result in
     let left : c.loop-ping.pings ≡ first ∷ c.next.new.self = search rules in
-    let none = no_turns c.new-turns.result c.new-turns.ensures.empty in
-    let turns = counted_turns c.args.marked.now c.among.result c.among-2.result c.note_turns-2.new.turns c.among.ensures
-    c.among-2.ensures (c.in_ok-note_turns-2.ensures c.among.result (c.in_ok-note_turns.ensures [] none)) in
-    let is : answered ≡ is_answered x first = c.is_answered-is_answered.ensures (got_pongs x) turns in
+    let turns = counted_turns c.args.marked.now c.among.result c.among-2.result c.in_ok-turns.turns c.among.ensures
+    c.among-2.ensures c.in_ok-turns.ensures.last in
+    let asked = asked_at i.0 c.next.new.self first c.in_ok-turns.turns
+    (subst (λ (l : List (InTurn Reply)). IsAskedFor l c.in_ok-turns.turns)
+    (c.again.ensures ∙ (c.among-pings.ensures ∙ (i.1 ∙ ap (λ (l : List (InTurn Reply)). i.0 ++ l) left)))
+    c.in_ok-turns.ensures.asked) in
+    let is : answered ≡ is_answered x first = c.is_answered-is_answered.ensures (got_pongs x) turns asked in
     let owed : is_owed x first ≡ true = sym (c.is_owed.ensures first refl) ∙ search rules in (
       i.0 ++ first ∷ [],
       i.1 ∙ (ap (λ (l : List (InTurn Reply)). i.0 ++ l) left ∙ sym (append_assoc i.0 (first ∷ []) c.next.new.self)),
@@ -44,10 +48,13 @@ loop-ping-preserved c =
     let first = reply_in ping in
     let answered = c.is_answered-is_answered.result in
     let left : c.loop-ping.pings ≡ first ∷ c.next.new.self = search rules in
-    let none = no_turns c.new-turns.result c.new-turns.ensures.empty in
-    let turns = counted_turns c.args.marked.now c.among.result c.among-2.result c.note_turns-2.new.turns c.among.ensures
-    c.among-2.ensures (c.in_ok-note_turns-2.ensures c.among.result (c.in_ok-note_turns.ensures [] none)) in
-    let is : answered ≡ is_answered x first = c.is_answered-is_answered.ensures (got_pongs x) turns in
+    let turns = counted_turns c.args.marked.now c.among.result c.among-2.result c.in_ok-turns.turns c.among.ensures
+    c.among-2.ensures c.in_ok-turns.ensures.last in
+    let asked = asked_at i.0 c.next.new.self first c.in_ok-turns.turns
+    (subst (λ (l : List (InTurn Reply)). IsAskedFor l c.in_ok-turns.turns)
+    (c.again.ensures ∙ (c.among-pings.ensures ∙ (i.1 ∙ ap (λ (l : List (InTurn Reply)). i.0 ++ l) left)))
+    c.in_ok-turns.ensures.asked) in
+    let is : answered ≡ is_answered x first = c.is_answered-is_answered.ensures (got_pongs x) turns asked in
     let owed : is_owed x first ≡ false = sym (c.is_owed.ensures first refl) ∙ search rules in (
       i.0 ++ first ∷ [],
       i.1 ∙ (ap (λ (l : List (InTurn Reply)). i.0 ++ l) left ∙ sym (append_assoc i.0 (first ∷ []) c.next.new.self)),

@@ -21,5 +21,6 @@ returns-clause-grown c =
       no_due = none_fresh due_for c.args.tested sent.session sent.collected c.nothing_taken.ensures.taken;
       no_got = none_fresh got_in (other_role c.args.tested) got.session got.collected taken;
       pairing = c.new-2.ensures;
+      last_ping = c.new-3.ensures 0;
       count = refl;
     }

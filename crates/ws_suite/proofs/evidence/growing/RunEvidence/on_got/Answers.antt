@@ -17,8 +17,8 @@ returns-then-has_progress-clause-grown c = λ tested before turn h.
     let old = so_far tested _ _ c.self.view_is before turn h in
     let taken = c.in_ok-has_progress.ensures.taken old.gots (other_role tested) (got_turns before) turn.got number
     (got_so_far tested _ _ c.self.view_is before turn h) in
-    more_got tested _ _ c.self.view_is before turn h c.args.bytes.now _ _ _ _ _ taken c.hand_on.ensures.tally
-    c.hand_on.ensures.fresh c.in_ok-take_got.ensures
+    more_got tested _ _ c.self.view_is before turn h c.session_laws.ensures c.args.bytes.now _ _ _ _ _ _ taken
+    c.hand_on.ensures.tally c.hand_on.ensures.fresh c.in_ok-take_got.ensures c.in_ok-note_got.ensures
 
 pub returns-clause-grown : goal.returns-clause-grown
 returns-clause-grown c = λ tested before turn h.
@@ -27,8 +27,8 @@ returns-clause-grown c = λ tested before turn h.
     let old = so_far tested _ _ c.self.view_is before turn h in
     let taken = c.in_ok-has_progress.ensures.taken old.gots (other_role tested) (got_turns before) turn.got number
     (got_so_far tested _ _ c.self.view_is before turn h) in
-    more_got tested _ _ c.self.view_is before turn h c.args.bytes.now _ _ _ _ _ taken c.hand_on.ensures.tally
-    c.hand_on.ensures.fresh c.in_ok-take_got.ensures
+    more_got tested _ _ c.self.view_is before turn h c.session_laws.ensures c.args.bytes.now _ _ _ _ _ _ taken
+    c.hand_on.ensures.tally c.hand_on.ensures.fresh c.in_ok-take_got.ensures c.in_ok-note_got.ensures
 
 pub returns-then-has_progress-clause-noted : goal.returns-then-has_progress-clause-noted
 returns-then-has_progress-clause-noted c = λ tested before turn h.

@@ -15,8 +15,8 @@ returns-clause-grown c = λ tested before turn h.
     let old = so_far tested _ _ c.self.view_is before turn h in
     let taken = c.in_ok-take_watched.ensures.taken old.dues tested (sent_turns before) turn.sent number
     (due_so_far tested _ _ c.self.view_is before turn h) in
-    more_sent tested _ _ c.self.view_is before turn h c.args.bytes.now _ _ _ _ _ _ taken c.hand_on.ensures.tally
-    c.hand_on.ensures.fresh c.want.ensures.tally c.in_ok-take_due.ensures
+    more_sent tested _ _ c.self.view_is before turn h c.session_laws.ensures c.args.bytes.now _ _ _ _ _ _ taken
+    c.hand_on.ensures.tally c.hand_on.ensures.fresh c.in_ok-take_due.ensures c.in_ok-note_due.ensures
 
 pub returns-clause-noted : goal.returns-clause-noted
 returns-clause-noted c = λ tested before turn h.

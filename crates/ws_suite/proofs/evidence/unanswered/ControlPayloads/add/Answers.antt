@@ -2,7 +2,7 @@
 use Rattle.std.proofs.Common.{◌≡◌, ◌∙◌, ◌+◌, ◌==◌, ℕ, ap, arith}
 use Rattle.ws_suite.specs.InnerUnanswered.{print_count, fingerprint}
 use Rattle.ws_suite.proofs.PrintLemmas.{counts_more, one_if, print_more}
-use Rattle.ws_suite.proofs.evidence.unanswered.UnansweredPings.add.Goals as goal
+use Rattle.ws_suite.proofs.evidence.unanswered.ControlPayloads.add.Goals as goal
 
 pub invariant_of-self-2 : goal.invariant_of-self-2
 invariant_of-self-2 c =

@@ -4,7 +4,7 @@ use Rattle.ws_suite.specs.InnerUnanswered.{print_count, fingerprint, with_print}
 use Rattle.ws_suite.specs.Progress.{is_pong_owed}
 use Rattle.ws_suite.proofs.PrintLemmas.{counts_less, no_print, one_if, print_less}
 use Rattle.ws_suite.proofs.UnansweredLemmas.{none_found}
-use Rattle.ws_suite.proofs.evidence.unanswered.UnansweredPings.answer.Goals as goal
+use Rattle.ws_suite.proofs.evidence.unanswered.ControlPayloads.answer.Goals as goal
 
 none_owed : (c : goal.Then-not-is_counted) → is_pong_owed c.args.payload.now c.args.self.now ≡ false
 none_owed c =

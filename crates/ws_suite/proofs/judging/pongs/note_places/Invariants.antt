@@ -3,7 +3,7 @@ use Rattle.std.proofs.Common.{◌≡◌, ◌++◌, List, length}
 use Rattle.ws_suite.specs.InnerJudging.{AreLastPlaces}
 use Rattle.ws_suite.specs.declared.evidence.InTurn.{InTurn}
 use Rattle.ws_suite.specs.declared.evidence.Reply.{Reply}
-use Rattle.ws_suite.proofs.judging.pongs.last_places.Given as goal
+use Rattle.ws_suite.proofs.judging.pongs.note_places.Given as goal
 
 -- the places of those that were passed
 abbrev pub invariant-loop-pong : goal.invariant-loop-pong
