@@ -1,5 +1,5 @@
 -- One connection of a client under test: what came of it, and what is told of that.
-use Rattle.std.proofs.Common.{◌≡◌, ◌-◌, ℕ, Bool, List, [], ◌∷◌, Option, Some, None, OnErr, Result, Ok, Err, ap, inr, length, refl}
+use Rattle.std.proofs.Common.{◌≡◌, ◌-◌, ℕ, List, [], ◌∷◌, Option, Some, None, OnErr, Result, Ok, Err, ap, inr, length, refl}
 use Rattle.std.proofs.Common.{subst, sym}
 use Rattle.std.specs.Prelude.{String, slice_get}
 use Rattle.std.specs.declared.alloc.Global.{Global}
@@ -23,6 +23,7 @@ use Rattle.wst_clients.specs.Visits.{IsInside, IsTextFor, PlaysTo, RunsOver, Vis
 use Rattle.wst_clients.specs.Visits.{AreSomeNotes, TellsSome, case_notes, refused_line}
 use Rattle.wst_testing.specs.Notes.{TellsEach, progress_notes}
 use Rattle.ws_frame.specs.Devices.{Device}
+use Rattle.ws_frame.specs.declared.source.DataStyle.{DataStyle}
 use Rattle.ws_scripts.specs.declared.transcript.Ended.TheVariants.{Tester}
 use Rattle.wst_clients.specs.declared.visiting.Visit.{Visit}
 use Rattle.wst_clients.specs.declared.visiting.Visit.TheVariants as visit
@@ -73,14 +74,14 @@ plays_ran rules standing purpose first case transcript run is runs = (refl, (cas
 -- ---- what is told of it
 
 -- of a case that was run: the verdict on the client
-pub ran_told : (explains : Bool) (expected : Expectation) (came : Visit) (purpose : Purpose) (transcript : Transcript)
+pub ran_told : (explains : Option DataStyle) (expected : Expectation) (came : Visit) (purpose : Purpose) (transcript : Transcript)
     (told : Judgement) → came ≡ visit.Ran purpose transcript → IsJudgementOf explains Client expected transcript told
     → IsVisitOutcome explains expected came (Ran purpose (Judged told))
 ran_told explains expected came purpose transcript told is judged =
     subst (λ (v : Visit). IsVisitOutcome explains expected v (Ran purpose (Judged told))) (sym is)
     (refl, (told, refl, judged))
 
-inside_of : (explains : Bool) (expected : Expectation) (rules : VisitRules) (came : Visit) (told : VisitOutcome)
+inside_of : (explains : Option DataStyle) (expected : Expectation) (rules : VisitRules) (came : Visit) (told : VisitOutcome)
     → IsVisitOutcome explains expected came told → IsInside rules came → AsksInside rules told
 inside_of explains expected rules visit.Lost Lost is within = tt
 inside_of explains expected rules visit.Lost (Refused fault) is within = absurd is
@@ -112,7 +113,7 @@ comes Meets rules standing came told met is within = record {
   inside = inside_of rules.explains rules.expected rules came told is within;
 }
 
-pub same_notes : (explains : Bool) (expected : Expectation) (rules : VisitRules) (came : Visit) (told : VisitOutcome)
+pub same_notes : (explains : Option DataStyle) (expected : Expectation) (rules : VisitRules) (came : Visit) (told : VisitOutcome)
     → IsVisitOutcome explains expected came told → visit_notes rules came ≡ outcome_notes rules told
 same_notes explains expected rules visit.Lost Lost is = refl
 same_notes explains expected rules visit.Lost (Refused fault) is = absurd is

@@ -17,6 +17,7 @@ use Rattle.wst_clients.specs.Visits.{case_for, case_notes, refused_line}
 use Rattle.wst_testing.specs.declared.outcome.Outcome.{Outcome}
 use Rattle.wst_testing.specs.declared.outcome.Outcome.TheVariants.{HeadRefused, Judged, NoConnection, NotRun}
 use Rattle.wst_testing.specs.declared.outcome.Tally.{Tally}
+use Rattle.ws_frame.specs.declared.source.DataStyle.{DataStyle}
 use Rattle.ws_scripts.specs.declared.expectation.Expectation.{Expectation}
 use Rattle.wst_clients.specs.declared.visiting.Visit.{Visit}
 use Rattle.wst_clients.specs.declared.visiting.Visit.TheVariants as visit
@@ -27,12 +28,12 @@ use Rattle.wst_clients.specs.declared.visit_outcome.VisitOutcome.TheVariants.{Lo
 -- ---- what is told of a connection
 
 -- the verdict on the client by the transcript of its case, with why it is told where that is asked for
-abbrev pub IsClientOutcome : Bool → Expectation → Transcript → Outcome → Type 0
+abbrev pub IsClientOutcome : Option DataStyle → Expectation → Transcript → Outcome → Type 0
 IsClientOutcome explains expected transcript outcome =
     (told : Judgement) × (outcome ≡ Judged told) × IsJudgementOf explains Client expected transcript told
 
 -- this is told of what came of a connection
-abbrev pub IsVisitOutcome : Bool → Expectation → Visit → VisitOutcome → Type 0
+abbrev pub IsVisitOutcome : Option DataStyle → Expectation → Visit → VisitOutcome → Type 0
 IsVisitOutcome explains expected visit.Lost Lost = ⊤
 IsVisitOutcome explains expected (visit.Refused fault) (Refused other) = other ≡ fault
 IsVisitOutcome explains expected (visit.Told purpose) (Told other) = other ≡ purpose

@@ -139,7 +139,7 @@ fn client_rules(expected: Expectation) -> RunRules
         tested: Role::Client,
         expected,
         key: NO_KEY,
-        explains: false,
+        explains: None,
         progress: false,
         is_limited: false,
     }

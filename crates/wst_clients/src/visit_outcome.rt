@@ -17,7 +17,7 @@ use crate::visiting::{Visit, VisitRules, case_for};
 use std::alloc::Global;
 use std::io::Write;
 use ws_base::NoMemory;
-use ws_frame::Watched;
+use ws_frame::{DataStyle, Watched};
 use ws_paths::{Behavior, Purpose, Standing};
 use ws_suite::{Case, Expectation, Verdict};
 use ws_upgrade::HeadFault;
@@ -64,7 +64,7 @@ pub(crate) fn outcome_of_client<C: TestedClients, F: Write>(
 #[tactic(auto, using(crate::proofs::VisitLemmas::ran_told))]
 fn outcome_of_visit(
     alloc: Global,
-    explains: bool,
+    explains: Option<DataStyle>,
     expected: Expectation,
     visit: Visit,
 ) -> Result<VisitOutcome, NoMemory>

@@ -22,7 +22,7 @@ use ws_base::NoMemory;
 use ws_connection::{
     Admission, Connection, EndsDirection, ScriptRun, Silent, WaitingRead, admit, run_script,
 };
-use ws_frame::Watched;
+use ws_frame::{DataStyle, Watched};
 use ws_paths::{Purpose, Standing, count_text, info_text, script_of, status_text};
 use ws_reports::Report;
 use ws_suite::{Case, Expectation, Transcript, turns_with};
@@ -54,8 +54,8 @@ pub struct VisitRules<'a> {
     pub has_timeouts: bool,
     /// What is expected of them.
     pub expected: Expectation,
-    /// Below a verdict other than Pass it is told why.
-    pub explains: bool,
+    /// Below a verdict other than Pass it is told why, with payloads in this style, where one is named.
+    pub explains: Option<DataStyle>,
     /// The name of each case is told before it runs.
     pub progress: bool,
     /// How cases are told of.

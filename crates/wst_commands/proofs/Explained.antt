@@ -1,5 +1,6 @@
 -- The verdict of an explanation, and what stands below one that isn't Pass.
 use Rattle.std.proofs.Common.{◌≡◌, ℕ, List, subst, sym}
+use Rattle.ws_frame.specs.declared.source.DataStyle.{DataStyle}
 use Rattle.ws_wire.specs.declared.role.Role.{Role}
 use Rattle.ws_scripts.specs.declared.transcript.Transcript.{Transcript}
 use Rattle.ws_suite.specs.Explanation.{IsExplanationBy}
@@ -30,16 +31,16 @@ verdict_explained tested Protocol transcript x is = record {
   is_verdict = is.is_verdict;
 }
 
-pub loose_explained : (tested : Role) (expected : Expectation) (transcript : Transcript) (x : Explanation)
+pub loose_explained : (style : DataStyle) (tested : Role) (expected : Expectation) (transcript : Transcript) (x : Explanation)
     (why : LooseWhy) (below : List ℕ)
     → x.verdict ≡ Loose why → IsExplanationBy expected tested transcript x
-    → IsExplanationText tested expected transcript x below → IsExplained tested expected transcript x.verdict below
-loose_explained tested expected transcript x why below is of text =
-    subst (λ (v : Verdict). IsExplained tested expected transcript v below) (sym is) (x, of, is, text)
+    → IsExplanationText style tested expected transcript x below → IsExplained style tested expected transcript x.verdict below
+loose_explained style tested expected transcript x why below is of text =
+    subst (λ (v : Verdict). IsExplained style tested expected transcript v below) (sym is) (x, of, is, text)
 
-pub fail_explained : (tested : Role) (expected : Expectation) (transcript : Transcript) (x : Explanation)
+pub fail_explained : (style : DataStyle) (tested : Role) (expected : Expectation) (transcript : Transcript) (x : Explanation)
     (why : FailWhy) (below : List ℕ)
     → x.verdict ≡ Fail why → IsExplanationBy expected tested transcript x
-    → IsExplanationText tested expected transcript x below → IsExplained tested expected transcript x.verdict below
-fail_explained tested expected transcript x why below is of text =
-    subst (λ (v : Verdict). IsExplained tested expected transcript v below) (sym is) (x, of, is, text)
+    → IsExplanationText style tested expected transcript x below → IsExplained style tested expected transcript x.verdict below
+fail_explained style tested expected transcript x why below is of text =
+    subst (λ (v : Verdict). IsExplained style tested expected transcript v below) (sym is) (x, of, is, text)

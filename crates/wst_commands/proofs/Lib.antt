@@ -10,4 +10,5 @@ pub mod Explained
 pub mod Told
 pub mod NamedScripts
 pub mod RuleTexts
+pub mod ShownTexts
 pub mod FirstPlaces

@@ -5,7 +5,10 @@ use Rattle.std.specs.Prelude.{Option, Some, None, codes, is_none, string_bytes}
 use Rattle.std.specs.List.{All, concat, flat_map}
 use Rattle.std.specs.Fmt.{decimal}
 use Rattle.ws_wire.specs.declared.role.Role.{Role}
-use Rattle.ws_frame.specs.Lines.{data_word}
+use Rattle.ws_frame.specs.Lines.{data_word, text_word}
+use Rattle.ws_frame.specs.declared.source.DataStyle.{DataStyle}
+use Rattle.ws_frame.specs.declared.source.DataStyle.TheVariants.{Hex, Text, All as Whole}
+use Rattle.ws_formats.specs.Words.{hex_word}
 use Rattle.ws_session.specs.Words.{kind_word, reason_name}
 use Rattle.ws_scripts.specs.declared.transcript.Turn.{Turn}
 use Rattle.ws_scripts.specs.declared.transcript.Ended.{Ended}
@@ -46,10 +49,17 @@ fault_word Got = codes "failed"
 abbrev pub shown_data : List ℕ → List ℕ
 shown_data payload = data_word (length payload) (take 16 payload)
 
-abbrev pub reply_words : Reply → List ℕ
-reply_words (reply.Message message) = kind_word message.kind ++ (codes " " ++ shown_data message.payload)
-reply_words (reply.Pong payload) = codes "pong " ++ shown_data payload
-reply_words (reply.Ping payload) = codes "ping " ++ shown_data payload
+-- in this style, as `show` writes it: so, as text where it is UTF-8, or all of it as digits
+abbrev pub styled_data : DataStyle → List ℕ → List ℕ
+styled_data Hex payload = shown_data payload
+styled_data Text payload = text_word payload
+styled_data Whole payload = hex_word payload
+
+abbrev pub reply_words : DataStyle → Reply → List ℕ
+reply_words style (reply.Message message) =
+    kind_word message.kind ++ (codes " " ++ styled_data style message.payload)
+reply_words style (reply.Pong payload) = codes "pong " ++ styled_data style payload
+reply_words style (reply.Ping payload) = codes "ping " ++ styled_data style payload
 
 -- where a fault is, a count of the bytes that came, and the bytes that show it, which are at most sixteen
 abbrev pub found_words : Option FoundFault → List ℕ
@@ -71,17 +81,17 @@ abbrev pub line_in : Side → ℕ → List ℕ → List ℕ
 line_in side turn words =
     concat (codes "  " ∷ side_word side ∷ codes " " ∷ decimal (turn + 1) ∷ codes " " ∷ words ∷ codes "\n" ∷ [])
 
-abbrev pub reply_line : Side → InTurn Reply → List ℕ
-reply_line side reply = line_in side reply.turn (reply_words reply.what)
+abbrev pub reply_line : DataStyle → Side → InTurn Reply → List ℕ
+reply_line style side reply = line_in side reply.turn (reply_words style reply.what)
 
 abbrev pub ending_line : Side → Option FoundFault → Option (InTurn Ending) → List ℕ
 ending_line side fault None = []
 ending_line side fault (Some ending) = line_in side ending.turn (ending_words side fault ending.what)
 
 -- what was owed, or what came: a line each, in its order, and then one for the close or the fault
-abbrev pub direction_lines : Side → Option FoundFault → Direction → List ℕ
-direction_lines side fault direction =
-    flat_map (reply_line side) direction.replies ++ ending_line side fault direction.ending
+abbrev pub direction_lines : DataStyle → Side → Option FoundFault → Direction → List ℕ
+direction_lines style side fault direction =
+    flat_map (reply_line style side) direction.replies ++ ending_line side fault direction.ending
 
 -- where bytes follow the close that came, with the first of them
 abbrev pub beyond_line : List ℕ → Option ℕ → List ℕ
@@ -109,12 +119,13 @@ rule_line (Some sentence) = concat (codes "  rule " ∷ sentence ∷ codes "\n" 
 
 -- The lines of an explanation: what was owed, what came, where bytes follow the close that came, where the bytes that
 -- came end inside a frame, who ended it, the rule behind the verdict, the rule that what came breaks, where the verdict
--- is about that, and the rule that what was sent breaks.
-abbrev pub explanation_lines : Role → Expectation → Option ℕ → Explanation → List ℕ
-explanation_lines tested expected cut x = concat (
-    direction_lines Due None x.due ∷ direction_lines Got x.found.fault x.got ∷ beyond_line x.found.behind.items x.beyond
-    ∷ cut_line cut ∷ ended_line x.ended x.turns ∷ rule_line (rule_words tested expected x.verdict)
-    ∷ rule_line (got_rule x.verdict x.got.ending) ∷ rule_line (sent_rule x.due.ending) ∷ [])
+-- is about that, and the rule that what was sent breaks. What was owed and what came show their payloads in this style.
+abbrev pub explanation_lines : DataStyle → Role → Expectation → Option ℕ → Explanation → List ℕ
+explanation_lines style tested expected cut x = concat (
+    direction_lines style Due None x.due ∷ direction_lines style Got x.found.fault x.got
+    ∷ beyond_line x.found.behind.items x.beyond ∷ cut_line cut ∷ ended_line x.ended x.turns
+    ∷ rule_line (rule_words tested expected x.verdict) ∷ rule_line (got_rule x.verdict x.got.ending)
+    ∷ rule_line (sent_rule x.due.ending) ∷ [])
 
 -- ---- where what came is cut
 
@@ -148,31 +159,34 @@ IsCutIn true turns cut = IsLastGot turns cut
 IsCutIn false turns cut = cut ≡ None
 
 -- the text is the lines of the explanation of a verdict on this transcript
-abbrev pub IsExplanationText : Role → Expectation → Transcript → Explanation → List ℕ → Type 0
-IsExplanationText tested expected transcript x text =
-    (cut : Option ℕ) × IsCutIn (is_cut x.got) transcript.turns cut × (text ≡ explanation_lines tested expected cut x)
+abbrev pub IsExplanationText : DataStyle → Role → Expectation → Transcript → Explanation → List ℕ → Type 0
+IsExplanationText style tested expected transcript x text = (cut : Option ℕ)
+    × IsCutIn (is_cut x.got) transcript.turns cut × (text ≡ explanation_lines style tested expected cut x)
 
 -- ---- what stands below a verdict
 
 -- why it is told
-abbrev pub Explains : Role → Expectation → Transcript → Verdict → List ℕ → Type 0
-Explains tested expected transcript verdict below = (x : Explanation)
+abbrev pub Explains : DataStyle → Role → Expectation → Transcript → Verdict → List ℕ → Type 0
+Explains style tested expected transcript verdict below = (x : Explanation)
     × IsExplanationBy expected tested transcript x × (x.verdict ≡ verdict)
-    × IsExplanationText tested expected transcript x below
+    × IsExplanationText style tested expected transcript x below
 
 -- nothing below a Pass
-abbrev pub IsExplained : Role → Expectation → Transcript → Verdict → List ℕ → Type 0
-IsExplained tested expected transcript Pass below = below ≡ []
-IsExplained tested expected transcript (Loose why) below = Explains tested expected transcript (Loose why) below
-IsExplained tested expected transcript (Fail why) below = Explains tested expected transcript (Fail why) below
+abbrev pub IsExplained : DataStyle → Role → Expectation → Transcript → Verdict → List ℕ → Type 0
+IsExplained style tested expected transcript Pass below = below ≡ []
+IsExplained style tested expected transcript (Loose why) below =
+    Explains style tested expected transcript (Loose why) below
+IsExplained style tested expected transcript (Fail why) below =
+    Explains style tested expected transcript (Fail why) below
 
--- nor where that isn't asked for
-abbrev pub StandsBelow : Bool → Role → Expectation → Transcript → Verdict → List ℕ → Type 0
-StandsBelow false tested expected transcript verdict below = below ≡ []
-StandsBelow true tested expected transcript verdict below = IsExplained tested expected transcript verdict below
+-- nor where that isn't asked for: else payloads are shown in the style that is named
+abbrev pub StandsBelow : Option DataStyle → Role → Expectation → Transcript → Verdict → List ℕ → Type 0
+StandsBelow None tested expected transcript verdict below = below ≡ []
+StandsBelow (Some style) tested expected transcript verdict below =
+    IsExplained style tested expected transcript verdict below
 
 -- the verdict on the transcript, and what stands below it
-pub record IsJudgementOf (explains : Bool) (tested : Role) (expected : Expectation) (transcript : Transcript)
-    (told : Judgement) : Type 0 where
+pub record IsJudgementOf (explains : Option DataStyle) (tested : Role) (expected : Expectation)
+    (transcript : Transcript) (told : Judgement) : Type 0 where
   pub verdict : IsVerdictBy expected tested transcript told.verdict
   pub below : StandsBelow explains tested expected transcript told.verdict (string_bytes told.below)

@@ -11,10 +11,11 @@ use Rattle.ws_suite.specs.declared.evidence.kept.ReplyKind.{ReplyKind}
 use Rattle.ws_suite.specs.declared.evidence.kept.ReplyKind.TheVariants.{Text, Binary, Pong, Ping}
 use Rattle.ws_suite.specs.declared.evidence.found.FoundFault.{FoundFault}
 use Rattle.ws_suite.specs.declared.explaining.Explanation.{Explanation}
+use Rattle.ws_frame.specs.declared.source.DataStyle.TheVariants.{Hex}
 use Rattle.ws_wire.specs.declared.role.Role.{Role}
 use Rattle.wst_commands.specs.Explaining.{beyond_line, cut_line, direction_lines, ending_line, explanation_lines}
 use Rattle.wst_commands.specs.Explaining.{IsCutIn, ended_line, is_cut, found_words, reply_line, rule_line}
-use Rattle.wst_commands.specs.Explaining.{shown_data, side_word}
+use Rattle.wst_commands.specs.Explaining.{shown_data, side_word, styled_data}
 use Rattle.wst_commands.specs.FaultRules.{got_rule, sent_rule}
 use Rattle.wst_commands.specs.declared.explanation_lines.BeyondLine.{BeyondLine}
 use Rattle.wst_commands.specs.declared.explanation_lines.CutLine.{CutLine}
@@ -29,9 +30,11 @@ use Rattle.wst_commands.specs.declared.explanation_lines.Shown.{Shown}
 use Rattle.wst_commands.specs.declared.explanation_lines.Side.{Side}
 use Rattle.wst_commands.specs.declared.explanation_lines.Side.TheVariants.{Due, Got}
 use Rattle.wst_commands.specs.declared.explanation_lines.SideLines.{SideLines}
+use Rattle.wst_commands.specs.declared.styled_data.StyledData.{StyledData}
 
 abbrev pub printed_explanation : ExplanationLines → List ℕ
-printed_explanation lines = explanation_lines lines.0.tested lines.0.expected lines.0.cut lines.0.explanation.now
+printed_explanation lines = explanation_lines lines.style lines.last.tested lines.last.expected lines.last.cut
+    lines.last.explanation.now
 
 -- the lines of an explanation behind those of what was owed and of what came
 abbrev pub lines_after_replies : Role → Expectation → Option ℕ → Explanation → List ℕ
@@ -59,10 +62,10 @@ abbrev pub printed_place : PlaceWords → List ℕ
 printed_place place = found_words (lent_fault place.0)
 
 abbrev pub printed_side : SideLines → List ℕ
-printed_side lines = direction_lines lines.side (lent_fault lines.fault) lines.direction.now
+printed_side lines = direction_lines lines.style lines.side (lent_fault lines.fault) lines.direction.now
 
 abbrev pub printed_reply : ReplyLine → List ℕ
-printed_reply line = reply_line line.side (reply_in line.reply)
+printed_reply line = reply_line line.style line.side (reply_in line.reply)
 
 abbrev pub printed_ending : EndingLine → List ℕ
 printed_ending line = ending_line line.side (lent_fault line.fault) line.ending.now
@@ -89,10 +92,15 @@ kind_start Binary = codes "binary "
 kind_start Pong = codes "pong "
 kind_start Ping = codes "ping "
 
--- the line of a verdict, and the lines below it, of which those behind the replies of each side are given
+-- the line of a verdict, and the lines below it with the first bytes of payloads, of which those behind the replies of
+-- each side are given
 abbrev pub explained_text : List ℕ → Explanation → List ℕ → List ℕ → List ℕ
 explained_text line x due_end got_end = line
-    ++ ((flat_map (reply_line Due) x.due.replies ++ due_end) ++ (flat_map (reply_line Got) x.got.replies ++ got_end))
+    ++ ((flat_map (reply_line Hex Due) x.due.replies ++ due_end)
+    ++ (flat_map (reply_line Hex Got) x.got.replies ++ got_end))
 
 abbrev pub printed_data : Shown → List ℕ
 printed_data payload = shown_data payload.0.now
+
+abbrev pub printed_styled : StyledData → List ℕ
+printed_styled styled = styled_data styled.style styled.payload.now

@@ -1,6 +1,8 @@
 -- A run of `judge`: a capture is read whole and judged, and the verdict is written.
-use Rattle.std.specs.Prelude.{◌≡◌, ◌⊎◌, ℕ, Bool, List, ◌++◌, Result, Err, MatchResult, codes}
+use Rattle.std.specs.Prelude.{◌≡◌, ◌⊎◌, ℕ, List, ◌++◌, Option, Some, None, Result, Err, MatchResult, codes}
+use Rattle.std.specs.Prelude.{if◌then◌else◌}
 use Rattle.ws_frame.specs.Devices.{Device, IsUntouched}
+use Rattle.ws_frame.specs.declared.source.DataStyle.{DataStyle}
 use Rattle.ws_scripts.specs.Captures.{DamagesCapture}
 use Rattle.ws_scripts.specs.Captures2.{IsAnyCaptureOf}
 use Rattle.ws_suite.specs.Protocol.{IsVerdictBy}
@@ -32,17 +34,21 @@ exit_of Pass = Done
 exit_of (Loose why) = Done
 exit_of (Fail why) = Damaged
 
+-- in which style it is told why, where that is asked for
+abbrev pub explained_in : JudgeOptions → Option DataStyle
+explained_in options = if options.explain then Some options.style else None
+
 -- the verdict on the tested end by the transcript was written, and below it why it is told where that is asked for; or
 -- memory ran out, and nothing was written
 abbrev pub TellsVerdict : JudgeOptions → Transcript → Result Exit Fault → Device → Type 0
 TellsVerdict options transcript ended output = MatchResult ended
     (λ exit. (verdict : Verdict) × (below : List ℕ) × IsVerdictBy options.expect options.role transcript verdict
-    × StandsBelow options.explain options.role options.expect transcript verdict below
+    × StandsBelow (explained_in options) options.role options.expect transcript verdict below
     × Delivers (exit_of verdict) (verdict_line verdict ++ below) exit output)
     (λ fault. (fault ≡ NoMemory) × IsUntouched output)
 
 -- inside: the same by what is asked for
-abbrev pub TellsVerdictWith : Bool → Role → Expectation → Transcript → Result Exit Fault → Device → Type 0
+abbrev pub TellsVerdictWith : Option DataStyle → Role → Expectation → Transcript → Result Exit Fault → Device → Type 0
 TellsVerdictWith explains tested expected transcript ended output = MatchResult ended
     (λ exit. (verdict : Verdict) × (below : List ℕ) × IsVerdictBy expected tested transcript verdict
     × StandsBelow explains tested expected transcript verdict below

@@ -4,12 +4,13 @@ use Rattle.std.specs.Prelude.{not, ◌||◌, ◌&&◌, if◌then◌else◌}
 use Rattle.std.specs.Prelude.{List, [], ◌∷◌, drop, take, position, codes, Option, Some, None, MatchOption}
 use Rattle.std.specs.Borrow.{Bor}
 use Rattle.std.specs.List.{ends_with, list_all, list_any, starts_with}
-use Rattle.std.specs.Char.{is_ascii_control}
+use Rattle.std.specs.Char.{is_ascii_control, is_ascii_hexdigit, is_ascii_uppercase}
 use Rattle.std.specs.Str.{bytes_eq, is_utf8}
 use Rattle.ws_formats.specs.Words.{words_of}
 use Rattle.wst_commands.specs.declared.step_damages.StepDamage.{StepDamage}
 use Rattle.wst_commands.specs.declared.step_damages.StepDamage.TheVariants.{EndsInCr, Escape, Order, Other, Quotes}
 use Rattle.wst_commands.specs.declared.step_damages.StepDamage.TheVariants.{NoPayload, Unended, Unprintable}
+use Rattle.wst_commands.specs.declared.step_damages.StepDamage.TheVariants.{Capitals, Kind, Reserved, Unquoted}
 
 -- ---- cutting
 
@@ -62,9 +63,57 @@ is_frame_name name = bytes_eq name (codes "text") || (bytes_eq name (codes "bina
 abbrev pub are_fields : List (List ℕ) → Bool
 are_fields words = list_all (λ word. nat_lt (field_rank word) 5) words
 
+-- the names of reserved opcodes
+abbrev pub is_reserved_name : List ℕ → Bool
+is_reserved_name name = bytes_eq name (codes "op3") || (bytes_eq name (codes "op4") || (bytes_eq name (codes "op5")
+    || (bytes_eq name (codes "op6") || (bytes_eq name (codes "op7") || (bytes_eq name (codes "op11")
+    || (bytes_eq name (codes "op12") || (bytes_eq name (codes "op13") || (bytes_eq name (codes "op14")
+    || bytes_eq name (codes "op15")))))))))
+
+-- a line that is no comment begins with one of these words
+abbrev pub is_first_word : List ℕ → Bool
+is_first_word word = is_frame_name word || (is_reserved_name word || (starts_with nat_eq word (codes "close=")
+    || (bytes_eq word (codes "raw") || (bytes_eq word (codes "wait") || bytes_eq word (codes "chop")))))
+
+-- a field of the reserved bits
+abbrev pub is_right_rsv : List ℕ → Bool
+is_right_rsv word = bytes_eq word (codes "rsv=0") || (bytes_eq word (codes "rsv=1") || (bytes_eq word (codes "rsv=2")
+    || (bytes_eq word (codes "rsv=3") || (bytes_eq word (codes "rsv=4") || (bytes_eq word (codes "rsv=5")
+    || (bytes_eq word (codes "rsv=6") || bytes_eq word (codes "rsv=7")))))))
+
+-- one whose number is none, or above 7
+abbrev pub is_wrong_rsv : List ℕ → Bool
+is_wrong_rsv word = starts_with nat_eq word (codes "rsv=") && not (is_right_rsv word)
+
+-- hexadecimal digits, of which some are capital
+abbrev pub has_capitals : List ℕ → Bool
+has_capitals word = list_all is_ascii_hexdigit word && list_any is_ascii_uppercase word
+
+-- a byte of no data without quotes, which are digits, a star, or a dash
+abbrev pub is_no_data : ℕ → Bool
+is_no_data byte = not (is_ascii_hexdigit byte || (byte == 42 || byte == 45))
+
+-- no field, and no data without quotes
+abbrev pub is_unquoted : List ℕ → Bool
+is_unquoted word = not (list_any (λ (byte : ℕ). byte == 61) word) && list_any is_no_data word
+
+-- this, or that the word lacks its quotes, where it may be a text
+abbrev pub or_unquoted : Bool → StepDamage → List ℕ → StepDamage
+or_unquoted may_be_text other word = if may_be_text && is_unquoted word then Unquoted else other
+
+-- the first word whose digits are wrong, or else this, or that a word behind lacks its quotes
+abbrev pub word_damage : Bool → StepDamage → List (List ℕ) → StepDamage
+word_damage may_be_text other [] = other
+word_damage may_be_text other (word ∷ words) =
+    if is_wrong_rsv word then Reserved
+    else (if has_capitals word then Capitals
+    else word_damage may_be_text (or_unquoted may_be_text other word) words)
+
 -- the words of a line, of which none stands behind one that is to follow it
 abbrev pub ordered_damage : List ℕ → List (List ℕ) → StepDamage
-ordered_damage name fields = if is_frame_name name && are_fields fields then NoPayload else Other
+ordered_damage name fields =
+    if is_frame_name name && are_fields fields then NoPayload
+    else (if is_first_word name then word_damage (is_frame_name name) Other fields else Kind)
 
 -- the words of a line: the name of the frame, and then its fields and its data
 abbrev pub words_damage : List (List ℕ) → StepDamage
@@ -95,15 +144,19 @@ has_wrong_escape (byte ∷ []) = false
 has_wrong_escape (byte ∷ next ∷ rest) =
     if byte == 92 then not (is_escape_letter next) || has_wrong_escape rest else has_wrong_escape (next ∷ rest)
 
--- what may be wrong with a text itself
-abbrev pub text_fault : List ℕ → StepDamage
-text_fault text = if is_unprintable text then Unprintable else (if has_wrong_escape text then Escape else Other)
+-- what may be wrong with a text itself, or else this
+abbrev pub text_fault : List ℕ → StepDamage → StepDamage
+text_fault text other = if is_unprintable text then Unprintable else (if has_wrong_escape text then Escape else other)
 
 -- a line that ends with this text, before which this is wrong: where that is nothing else (the payload is the text),
 -- the text may be it
 abbrev pub inner_damage : List ℕ → StepDamage → StepDamage
-inner_damage text Other = text_fault text
-inner_damage text NoPayload = text_fault text
+inner_damage text Other = text_fault text Other
+inner_damage text NoPayload = text_fault text Other
+inner_damage text Unquoted = text_fault text Other
+inner_damage text Kind = text_fault text Kind
+inner_damage text Reserved = text_fault text Reserved
+inner_damage text Capitals = text_fault text Capitals
 inner_damage text Unended = Unended
 inner_damage text EndsInCr = EndsInCr
 inner_damage text Quotes = Quotes
@@ -147,7 +200,8 @@ cut_damage line (Some parts) = quoted_damage parts.0 parts.1
 
 -- a line that has an LF: it ends in CR; or else it has quotes, but not two that no backslash escapes; or else its
 -- fields stand in another order, or one of them behind its data; or else its text is no UTF-8, has a control character
--- or a wrong escape, or it names a frame and has no payload
+-- or a wrong escape, or it names a frame and has no payload; or else it begins with no word that a line begins with, or
+-- one of its words is wrong
 abbrev pub line_damage : List ℕ → StepDamage
 line_damage line = if ends_with nat_eq line (13 ∷ []) then EndsInCr else cut_damage line (cut_of 34 line)
 
@@ -172,4 +226,9 @@ damage_words Unprintable =
 damage_words Escape =
     codes "not a step\n  an escape is \\\" \\\\ \\/ \\b \\f \\n \\r \\t or \\uXXXX: text \"C:\\\\temp\""
 damage_words NoPayload = codes "not a step\n  the payload stands last, - is an empty one: ping -"
+damage_words Kind =
+    codes "not a step\n  a step begins with text, binary, cont, ping, pong, close, raw, wait or opN"
+damage_words Reserved = codes "not a step\n  rsv is 0 to 7, as 4*RSV1 + 2*RSV2 + RSV3: text rsv=4 -"
+damage_words Capitals = codes "not a step\n  hexadecimal digits are lower-case: text c3a9"
+damage_words Unquoted = codes "not a step\n  a text is quoted, and bytes are hex: text \"hi\" or text 6869"
 damage_words Other = codes "not a step"

@@ -9,6 +9,7 @@ ghost use Rattle.wst_commands.specs.InnerExplaining.{AreLastLines};
 use crate::explanation_lines::{ExplanationLines, LastLines};
 use std::alloc::Global;
 use ws_base::NoMemory;
+use ws_frame::DataStyle;
 use ws_suite::{
     AsTranscript, Direction, Expectation, Explanation, TranscriptRef, Verdict, explain_with,
     judge_with,
@@ -23,27 +24,27 @@ pub struct Judgement {
     pub below: String,
 }
 
-/// The verdict on a tested end of this role by all that went over a connection; with `explains` set also why it is
-/// told, if it isn't Pass.
+/// The verdict on a tested end of this role by all that went over a connection; where `explains` names a style also
+/// why it is told, with payloads in this style, if it isn't Pass.
 #[tactic(auto, using(crate::proofs::Explained::verdict_explained))]
 pub fn judgement_of<T: AsTranscript>(
     alloc: Global,
-    explains: bool,
+    explains: Option<DataStyle>,
     tested: Role,
     expected: Expectation,
     transcript: &T,
 ) -> Result<Judgement, NoMemory>
     ensures { IfOk result (λ told. IsJudgementOf explains tested expected (T.transcript transcript.now) told) }
 {
-    if !explains {
+    let Some(style) = explains else {
         let verdict = judge_with(alloc, tested, expected, transcript)?;
         return Ok(Judgement {
             verdict,
             below: String::new(alloc),
         });
-    }
+    };
     let explanation = explain_with(alloc, tested, expected, transcript)?;
-    let below = lines_below(alloc, tested, expected, transcript, &explanation)?;
+    let below = lines_below(alloc, style, tested, expected, transcript, &explanation)?;
     Ok(Judgement {
         verdict: explanation.verdict,
         below,
@@ -53,6 +54,7 @@ pub fn judgement_of<T: AsTranscript>(
 /// The lines below the verdict of an explanation.
 fn lines_below<T: AsTranscript>(
     alloc: Global,
+    style: DataStyle,
     tested: Role,
     expected: Expectation,
     transcript: &T,
@@ -60,33 +62,38 @@ fn lines_below<T: AsTranscript>(
 ) -> Result<String, NoMemory>
     requires { IsExplanationBy expected tested (T.transcript transcript.now) explanation.now }
     ensures { IfOk result (λ below.
-        IsExplained tested expected (T.transcript transcript.now) explanation.now.verdict (string_bytes below)) }
+        IsExplained style tested expected (T.transcript transcript.now) explanation.now.verdict (string_bytes below)) }
 {
     match explanation.verdict {
         Verdict::Pass => Ok(String::new(alloc)),
         Verdict::Loose(_) => {
-            let below = write_explanation(alloc, tested, expected, transcript, explanation)?;
+            let below = write_explanation(alloc, style, tested, expected, transcript, explanation)?;
             Ok(below)
         }
         Verdict::Fail(_) => {
-            let below = write_explanation(alloc, tested, expected, transcript, explanation)?;
+            let below = write_explanation(alloc, style, tested, expected, transcript, explanation)?;
             Ok(below)
         }
     }
 }
 
 /// The lines of an explanation of the verdict on this transcript, each indented by two spaces and ended by LF.
-pub fn write_explanation<T: AsTranscript>(
+fn write_explanation<T: AsTranscript>(
     alloc: Global,
+    style: DataStyle,
     tested: Role,
     expected: Expectation,
     transcript: &T,
     explanation: &Explanation,
 ) -> Result<String, NoMemory>
     ensures { IfOk result (λ text.
-        IsExplanationText tested expected (T.transcript transcript.now) explanation.now (string_bytes text)) }
+        IsExplanationText style tested expected (T.transcript transcript.now) explanation.now (string_bytes text)) }
 {
-    let lines = ExplanationLines(last_lines(tested, expected, transcript, explanation));
+    let lines = ExplanationLines {
+        alloc,
+        style,
+        last: last_lines(tested, expected, transcript, explanation),
+    };
     let text = format!(in alloc; "{lines}")?;
     Ok(text)
 }

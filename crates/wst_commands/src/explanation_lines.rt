@@ -7,8 +7,11 @@ ghost use Rattle.wst_commands.specs.InnerExplaining.{printed_ending, printed_exp
 ghost use Rattle.wst_commands.specs.InnerExplaining.{printed_place, printed_reply, printed_rule, printed_side};
 
 use crate::fault_rules::{got_rule, sent_rule};
+use crate::styled_data::StyledData;
+use std::alloc::Global;
 use std::fmt;
 use ws_formats::HexDigits;
+use ws_frame::DataStyle;
 use ws_scripts::Ended;
 use ws_suite::{
     Direction, Ending, Expectation, Explanation, FoundFault, InTurn, Kept, ReplyKind, rule_with,
@@ -49,7 +52,12 @@ impl Side {
 
 /// The lines of an explanation.
 #[derive(Drop)]
-pub(crate) struct ExplanationLines<'a>(pub(crate) LastLines<'a>);
+pub(crate) struct ExplanationLines<'a> {
+    pub(crate) alloc: Global,
+    /// How payloads of what was owed and of what came are shown.
+    pub(crate) style: DataStyle,
+    pub(crate) last: LastLines<'a>,
+}
 
 impl fmt::Display for ExplanationLines<'_> {
     ghost use Rattle.std.specs.Prelude.{Some};
@@ -58,16 +66,20 @@ impl fmt::Display for ExplanationLines<'_> {
 
     fn fmt<W: fmt::Write>(&self, f: &mut fmt::Formatter<W>) -> fmt::Result {
         let due = SideLines {
+            alloc: self.alloc,
+            style: self.style,
             side: Side::Due,
-            direction: &self.0.explanation.due,
+            direction: &self.last.explanation.due,
             fault: None,
         };
         let got = SideLines {
+            alloc: self.alloc,
+            style: self.style,
             side: Side::Got,
-            direction: &self.0.explanation.got,
-            fault: found_fault(self.0.explanation),
+            direction: &self.last.explanation.got,
+            fault: found_fault(self.last.explanation),
         };
-        write!(f, "{due}{got}{}", self.0)
+        write!(f, "{due}{got}{}", self.last)
     }
 }
 
@@ -105,6 +117,8 @@ impl fmt::Display for LastLines<'_> {
 /// The lines of what was owed, or of what came.
 #[derive(Drop)]
 struct SideLines<'a> {
+    alloc: Global,
+    style: DataStyle,
     side: Side,
     direction: &'a Direction,
     fault: Option<&'a FoundFault>,
@@ -119,6 +133,8 @@ impl fmt::Display for SideLines<'_> {
         let mut replies = self.direction.replies.iter();
         while let Some(reply) = replies.next() {
             let line = ReplyLine {
+                alloc: self.alloc,
+                style: self.style,
                 side: self.side,
                 reply,
             };
@@ -136,6 +152,8 @@ impl fmt::Display for SideLines<'_> {
 /// The line of a message, a pong or a ping.
 #[derive(Drop)]
 struct ReplyLine<'a> {
+    alloc: Global,
+    style: DataStyle,
     side: Side,
     reply: Kept<'a>,
 }
@@ -150,7 +168,11 @@ impl fmt::Display for ReplyLine<'_> {
             side: self.side,
             turn: self.reply.turn,
         };
-        let data = Shown(self.reply.payload);
+        let data = StyledData {
+            alloc: self.alloc,
+            style: self.style,
+            payload: self.reply.payload,
+        };
         match self.reply.kind {
             ReplyKind::Text => writeln!(f, "{start}text {data}"),
             ReplyKind::Binary => writeln!(f, "{start}binary {data}"),
@@ -310,7 +332,7 @@ impl fmt::Display for LineStart {
 
 /// A payload, of which the first bytes are shown.
 #[derive(Drop)]
-struct Shown<'a>(&'a [u8]);
+pub(crate) struct Shown<'a>(pub(crate) &'a [u8]);
 
 impl fmt::Display for Shown<'_> {
     ghost use Rattle.std.specs.Prelude.{Some};

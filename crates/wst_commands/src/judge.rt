@@ -1,8 +1,9 @@
 //! The command `judge`. Captures are told in docs/FORMATS.md, and verdicts in docs/VERDICTS.md.
 
-ghost use Rattle.std.specs.Prelude.{◌≡◌, [], false, true};
+ghost use Rattle.std.specs.Prelude.{◌≡◌, [], None, Some, false, string_bytes};
 ghost use Rattle.ws_frame.specs.Devices.{watched};
 ghost use Rattle.ws_frame.specs.Watching.{has_failed};
+ghost use Rattle.ws_frame.specs.declared.source.DataStyle.TheVariants.{Hex};
 ghost use Rattle.wst_commands.specs.Devices.{Delivers};
 ghost use Rattle.wst_commands.specs.Explaining.{explanation_lines};
 ghost use Rattle.wst_commands.specs.InnerExplaining.{explained_text};
@@ -10,7 +11,7 @@ ghost use Rattle.wst_commands.specs.Judge.{RunsJudge, TellsJudged, TellsVerdict,
 ghost use Rattle.wst_commands.specs.Judge.{capture_fault, exit_of};
 
 use crate::exit::Exit;
-use crate::explaining::last_lines;
+use crate::explaining::{Judgement, judgement_of, last_lines};
 use crate::explanation_lines::{EndingLine, LastLines, Side, found_fault};
 use crate::fault::Fault;
 use crate::reading_capture::{ended_by, read_capture};
@@ -18,7 +19,7 @@ use crate::telling::deliver;
 use crate::writing_explanation::write_explained;
 use std::alloc::Global;
 use std::io::{Read, Write};
-use ws_frame::Watched;
+use ws_frame::{DataStyle, Watched};
 use ws_suite::{
     CaptureFault, Expectation, Explanation, KeptTranscript, Verdict, explain_with, judge_with,
 };
@@ -65,10 +66,15 @@ fn tell_verdict<W: Write>(
     requires { has_failed writer.old ≡ false }
     ensures { TellsVerdict options transcript.now result (watched W.contents writer.old writer.new) }
 {
-    if options.explain {
-        tell_explained(alloc, options.role, options.expect, transcript, writer)
-    } else {
-        tell_plain(alloc, options.role, options.expect, transcript, writer)
+    if !options.explain {
+        return tell_plain(alloc, options.role, options.expect, transcript, writer);
+    }
+    let (tested, expected) = (options.role, options.expect);
+    match options.style {
+        DataStyle::Hex => tell_explained(alloc, tested, expected, transcript, writer),
+        DataStyle::Text | DataStyle::All => {
+            tell_styled(alloc, options.style, tested, expected, transcript, writer)
+        }
     }
 }
 
@@ -82,7 +88,7 @@ fn tell_plain<W: Write>(
     writer: &mut Watched<W>,
 ) -> Result<Exit, Fault>
     requires { has_failed writer.old ≡ false }
-    ensures { TellsVerdictWith false tested expected transcript.now result
+    ensures { TellsVerdictWith None tested expected transcript.now result
         (watched W.contents writer.old writer.new) }
 {
     let Ok(verdict) = judge_with(alloc, tested, expected, transcript) else {
@@ -106,7 +112,44 @@ fn tell_line<W: Write>(
     }
 }
 
-/// Writes the verdict on a transcript in its line, and below it why it is told.
+/// Writes the verdict on a transcript in its line, and below it why it is told, with payloads in this style: a text
+/// that is made whole before it is written.
+#[tactic(auto, using(crate::proofs::Told::line_told))]
+fn tell_styled<W: Write>(
+    alloc: Global,
+    style: DataStyle,
+    tested: Role,
+    expected: Expectation,
+    transcript: &KeptTranscript,
+    writer: &mut Watched<W>,
+) -> Result<Exit, Fault>
+    requires { has_failed writer.old ≡ false }
+    ensures { TellsVerdictWith (Some style) tested expected transcript.now result
+        (watched W.contents writer.old writer.new) }
+{
+    let Ok(told) = judgement_of(alloc, Some(style), tested, expected, transcript) else {
+        return Err(Fault::NoMemory);
+    };
+    tell_judgement(alloc, &told, writer)
+}
+
+/// Writes a verdict in its line, and what stands below it.
+fn tell_judgement<W: Write>(
+    alloc: Global,
+    told: &Judgement,
+    writer: &mut Watched<W>,
+) -> Result<Exit, Fault>
+    requires { has_failed writer.old ≡ false }
+    ensures { TellsJudged told.now.verdict (string_bytes told.now.below) result
+        (watched W.contents writer.old writer.new) }
+{
+    let Ok(text) = format!(in alloc; "{}\n{}", told.verdict, told.below) else {
+        return Err(Fault::NoMemory);
+    };
+    Ok(deliver(exit_of(told.verdict), text.as_bytes(), writer))
+}
+
+/// Writes the verdict on a transcript in its line, and below it why it is told, with the first bytes of payloads.
 #[tactic(auto, using(crate::proofs::Told::pass_told))]
 fn tell_explained<W: Write>(
     alloc: Global,
@@ -116,7 +159,7 @@ fn tell_explained<W: Write>(
     writer: &mut Watched<W>,
 ) -> Result<Exit, Fault>
     requires { has_failed writer.old ≡ false }
-    ensures { TellsVerdictWith true tested expected transcript.now result
+    ensures { TellsVerdictWith (Some Hex) tested expected transcript.now result
         (watched W.contents writer.old writer.new) }
 {
     let Ok(explanation) = explain_with(alloc, tested, expected, transcript) else {
@@ -144,7 +187,7 @@ fn tell_lines<W: Write>(
 ) -> Result<Exit, Fault>
     requires { has_failed writer.old ≡ false }
     ensures { TellsJudged lines.now.explanation.now.verdict
-        (explanation_lines lines.now.tested lines.now.expected lines.now.cut lines.now.explanation.now) result
+        (explanation_lines Hex lines.now.tested lines.now.expected lines.now.cut lines.now.explanation.now) result
         (watched W.contents writer.old writer.new) }
 {
     let explanation = lines.explanation;

@@ -33,6 +33,7 @@ mod report;
 mod session;
 mod show;
 mod step_damages;
+mod styled_data;
 mod telling;
 mod time_limit;
 mod writing_explanation;

@@ -1,7 +1,8 @@
-//! The line of a reply, kept in place.
+//! The line of a reply with the first bytes of its payload, kept in place.
 
 ghost use Rattle.std.specs.Prelude.{◌≡◌, ◌≤◌, ◌+◌, ◌*◌, [], ◌++◌, length};
 ghost use Rattle.ws_formats.specs.Words.{hex};
+ghost use Rattle.ws_frame.specs.declared.source.DataStyle.TheVariants.{Hex};
 ghost use Rattle.ws_suite.specs.Kept.{reply_in};
 ghost use Rattle.wst_commands.specs.Explaining.{reply_line, shown_data};
 ghost use Rattle.wst_commands.specs.InnerExplaining.{kind_start, line_start};
@@ -35,7 +36,7 @@ impl Model for ReplyText {
 impl ReplyText {
     /// The line of this reply.
     pub(crate) fn of(side: Side, reply: Kept<'_>) -> ReplyText
-        ensures { result ≡ reply_line side (reply_in reply.entry) }
+        ensures { result ≡ reply_line Hex side (reply_in reply.entry) }
     {
         let mut line = ReplyText::new();
         line.push_start(side, reply.turn);

@@ -1,11 +1,14 @@
 //! What is wrong with a line that is no step, where that is known to be typed often.
 
-ghost use Rattle.std.specs.Prelude.{◌≡◌, ◌==◌, ◌<◌, IfOk, IfSome, length, map, position};
-ghost use Rattle.std.specs.Char.{is_ascii_control};
-ghost use Rattle.std.specs.List.{list_any};
+ghost use Rattle.std.specs.Prelude.{◌≡◌, ◌==◌, ◌<◌, ℕ, IfOk, IfSome, length, map, position};
+ghost use Rattle.std.specs.Char.{is_ascii_control, is_ascii_hexdigit, is_ascii_uppercase};
+ghost use Rattle.std.specs.List.{list_all, list_any};
+ghost use Rattle.wst_commands.specs.declared.step_damages.StepDamage.TheVariants.{Other};
 ghost use Rattle.wst_commands.specs.StepDamages.{CutsAtMark, CutsAtQuote, behind_damage, behind_lines, damage_words};
 ghost use Rattle.wst_commands.specs.StepDamages.{closing_quote, descend, escapes, has_wrong_escape, inner_damage};
 ghost use Rattle.wst_commands.specs.StepDamages.{is_escape_letter, is_unprintable, text_fault};
+ghost use Rattle.wst_commands.specs.StepDamages.{has_capitals, is_first_word, is_no_data, or_unquoted, word_damage};
+ghost use Rattle.wst_commands.specs.StepDamages.{is_reserved_name, is_right_rsv, is_unquoted, is_wrong_rsv};
 ghost use Rattle.wst_commands.specs.StepDamages.{are_fields, field_rank, is_frame_name, line_damage, ordered_damage};
 ghost use Rattle.wst_commands.specs.StepDamages.{order_damage, quoted_damage, step_damage, words_damage};
 
@@ -33,6 +36,14 @@ pub enum StepDamage {
     Escape,
     /// It names a frame and has no payload.
     NoPayload,
+    /// It begins with a word that no line begins with.
+    Kind,
+    /// Its reserved bits are above 7, or no number.
+    Reserved,
+    /// Its hexadecimal digits are capital.
+    Capitals,
+    /// Its payload is a text without quotes.
+    Unquoted,
     /// It is none of these.
     Other,
 }
@@ -55,6 +66,13 @@ impl StepDamage {
                 "not a step\n  an escape is \\\" \\\\ \\/ \\b \\f \\n \\r \\t or \\uXXXX: text \"C:\\\\temp\"",
             StepDamage::NoPayload =>
                 "not a step\n  the payload stands last, - is an empty one: ping -",
+            StepDamage::Kind =>
+                "not a step\n  a step begins with text, binary, cont, ping, pong, close, raw, wait or opN",
+            StepDamage::Reserved =>
+                "not a step\n  rsv is 0 to 7, as 4*RSV1 + 2*RSV2 + RSV3: text rsv=4 -",
+            StepDamage::Capitals => "not a step\n  hexadecimal digits are lower-case: text c3a9",
+            StepDamage::Unquoted =>
+                "not a step\n  a text is quoted, and bytes are hex: text \"hi\" or text 6869",
             StepDamage::Other => "not a step",
         }
     }
@@ -127,20 +145,25 @@ fn inner_damage(text: &[u8], fields: StepDamage) -> StepDamage
         StepDamage::Order => StepDamage::Order,
         StepDamage::Unprintable => StepDamage::Unprintable,
         StepDamage::Escape => StepDamage::Escape,
-        StepDamage::NoPayload | StepDamage::Other => text_fault(text),
+        StepDamage::NoPayload | StepDamage::Unquoted | StepDamage::Other => {
+            text_fault(text, StepDamage::Other)
+        }
+        StepDamage::Kind => text_fault(text, StepDamage::Kind),
+        StepDamage::Reserved => text_fault(text, StepDamage::Reserved),
+        StepDamage::Capitals => text_fault(text, StepDamage::Capitals),
     }
 }
 
-/// What may be wrong with a text itself.
-fn text_fault(text: &[u8]) -> StepDamage
-    ensures { result ≡ text_fault text.now }
+/// What may be wrong with a text itself, or else this.
+fn text_fault(text: &[u8], other: StepDamage) -> StepDamage
+    ensures { result ≡ text_fault text.now other }
 {
     if is_unprintable(text) {
         StepDamage::Unprintable
     } else if has_wrong_escape(text) {
         StepDamage::Escape
     } else {
-        StepDamage::Other
+        other
     }
 }
 
@@ -225,9 +248,137 @@ fn ordered_damage(name: &[u8], fields: &[&[u8]]) -> StepDamage
 {
     if is_frame_name(name) && are_fields(fields) {
         StepDamage::NoPayload
+    } else if is_first_word(name) {
+        word_damage(is_frame_name(name), fields)
     } else {
-        StepDamage::Other
+        StepDamage::Kind
     }
+}
+
+/// Whether a line that is no comment begins with this word.
+fn is_first_word(word: &[u8]) -> bool
+    ensures { result ≡ is_first_word word.now }
+{
+    is_frame_name(word)
+        || is_reserved_name(word)
+        || word.starts_with(b"close=")
+        || word == b"raw".as_slice()
+        || word == b"wait".as_slice()
+        || word == b"chop".as_slice()
+}
+
+/// Whether it is the name of a reserved opcode.
+fn is_reserved_name(name: &[u8]) -> bool
+    ensures { result ≡ is_reserved_name name.now }
+{
+    name == b"op3".as_slice()
+        || name == b"op4".as_slice()
+        || name == b"op5".as_slice()
+        || name == b"op6".as_slice()
+        || name == b"op7".as_slice()
+        || name == b"op11".as_slice()
+        || name == b"op12".as_slice()
+        || name == b"op13".as_slice()
+        || name == b"op14".as_slice()
+        || name == b"op15".as_slice()
+}
+
+/// What is wrong with the first word whose digits are wrong, or else whether one lacks its quotes.
+fn word_damage(may_be_text: bool, words: &[&[u8]]) -> StepDamage
+    ensures { result ≡ word_damage may_be_text Other (map (λ word. word.now) words.now) }
+{
+    let mut other = StepDamage::Other;
+    for word in words {
+        if is_wrong_rsv(*word) {
+            return StepDamage::Reserved;
+        }
+        if has_capitals(*word) {
+            return StepDamage::Capitals;
+        }
+        other = or_unquoted(may_be_text, other, *word);
+    }
+    other
+}
+
+/// This, or that the word lacks its quotes, where it may be a text.
+fn or_unquoted(may_be_text: bool, other: StepDamage, word: &[u8]) -> StepDamage
+    ensures { result ≡ or_unquoted may_be_text other word.now }
+{
+    if may_be_text && is_unquoted(word) {
+        StepDamage::Unquoted
+    } else {
+        other
+    }
+}
+
+/// Whether a word is a field of reserved bits that are not 0 to 7.
+fn is_wrong_rsv(word: &[u8]) -> bool
+    ensures { result ≡ is_wrong_rsv word.now }
+{
+    word.starts_with(b"rsv=") && !is_right_rsv(word)
+}
+
+/// Whether a word is a field of the reserved bits.
+fn is_right_rsv(word: &[u8]) -> bool
+    ensures { result ≡ is_right_rsv word.now }
+{
+    word == b"rsv=0".as_slice()
+        || word == b"rsv=1".as_slice()
+        || word == b"rsv=2".as_slice()
+        || word == b"rsv=3".as_slice()
+        || word == b"rsv=4".as_slice()
+        || word == b"rsv=5".as_slice()
+        || word == b"rsv=6".as_slice()
+        || word == b"rsv=7".as_slice()
+}
+
+/// Whether a word is hexadecimal digits, of which some are capital.
+fn has_capitals(word: &[u8]) -> bool
+    ensures { result ≡ has_capitals word.now }
+{
+    are_hexadecimal(word) && has_capital(word)
+}
+
+/// Whether each byte is a hexadecimal digit, in either case.
+fn are_hexadecimal(word: &[u8]) -> bool
+    ensures { result ≡ list_all is_ascii_hexdigit word.now }
+{
+    word.iter().all(|byte| byte.is_ascii_hexdigit())
+}
+
+/// Whether one of these bytes is a capital letter.
+fn has_capital(word: &[u8]) -> bool
+    ensures { result ≡ list_any is_ascii_uppercase word.now }
+{
+    word.iter().any(|byte| byte.is_ascii_uppercase())
+}
+
+/// Whether a word is no field, and no data without quotes.
+fn is_unquoted(word: &[u8]) -> bool
+    ensures { result ≡ is_unquoted word.now }
+{
+    !has_equals(word) && has_no_data(word)
+}
+
+/// Whether one of these bytes is an equals sign, as in a field.
+fn has_equals(word: &[u8]) -> bool
+    ensures { result ≡ list_any (λ (byte : ℕ). byte == 61) word.now }
+{
+    word.iter().any(|byte| *byte == b'=')
+}
+
+/// Whether one of these bytes is in no data without quotes.
+fn has_no_data(word: &[u8]) -> bool
+    ensures { result ≡ list_any is_no_data word.now }
+{
+    word.iter().any(|byte| is_no_data(*byte))
+}
+
+/// Whether no data without quotes has this byte.
+fn is_no_data(byte: u8) -> bool
+    ensures { result ≡ is_no_data byte }
+{
+    !(byte.is_ascii_hexdigit() || byte == b'*' || byte == b'-')
 }
 
 /// Whether a frame has this name, and its payload behind it.

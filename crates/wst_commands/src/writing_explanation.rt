@@ -1,9 +1,11 @@
-//! A verdict and why it is told, written through a room: no text of all lines is made.
+//! A verdict and why it is told, with the first bytes of payloads, written through a room: no text of all lines is
+//! made.
 
 ghost use Rattle.std.specs.Prelude.{◌≡◌, ◌++◌, false};
 ghost use Rattle.std.specs.List.{flat_map};
 ghost use Rattle.ws_rooms.specs.Rooms.{WritesAndKeeps};
 ghost use Rattle.ws_frame.specs.Devices.{watched};
+ghost use Rattle.ws_frame.specs.declared.source.DataStyle.TheVariants.{Hex};
 ghost use Rattle.ws_frame.specs.Streaming.{WritesAll};
 ghost use Rattle.ws_frame.specs.Watching.{has_failed};
 ghost use Rattle.wst_commands.specs.Explaining.{reply_line};
@@ -58,7 +60,7 @@ fn put_side<W: Write>(
     writer: &mut Watched<W>,
 ) -> Result<(), WriteFault>
     requires { has_failed writer.old ≡ false }
-    ensures { WritesAndKeeps (room.old ++ (flat_map (reply_line side) replies.now ++ end.now)) room.new
+    ensures { WritesAndKeeps (room.old ++ (flat_map (reply_line Hex side) replies.now ++ end.now)) room.new
         (watched W.contents writer.old writer.new) result }
 {
     put_replies(room, side, replies, writer)?;
@@ -73,7 +75,7 @@ fn put_replies<W: Write>(
     writer: &mut Watched<W>,
 ) -> Result<(), WriteFault>
     requires { has_failed writer.old ≡ false }
-    ensures { WritesAndKeeps (room.old ++ flat_map (reply_line side) replies.now) room.new
+    ensures { WritesAndKeeps (room.old ++ flat_map (reply_line Hex side) replies.now) room.new
         (watched W.contents writer.old writer.new) result }
 {
     let mut walk = replies.iter();

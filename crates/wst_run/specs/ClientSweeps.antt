@@ -43,7 +43,7 @@ pub record AreSweepRulesOf (plan : SweepPlan) (given : List Case) (rules : Visit
   pub budget : rules.budget ≡ plan.run.budget
   pub has_timeouts : rules.has_timeouts ≡ is_limited plan.run.timeout
   pub expected : rules.expected ≡ plan.run.expected
-  pub explains : rules.explains ≡ false
+  pub explains : rules.explains ≡ None
   pub progress : rules.progress ≡ plan.progress
   pub telling : rules.telling ≡ Scripts plan.all
 

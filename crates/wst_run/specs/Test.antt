@@ -1,8 +1,10 @@
 -- A run of `test`: the cases that the words ask for are run over ends in memory, over the server at an address, or over
 -- clients that come to one; or it is told why nothing is run.
-use Rattle.std.specs.Prelude.{◌≡◌, ◌⊎◌, ⊤, ℕ, Bool, true, false, not, ◌||◌, ◌&&◌, List, [], ◌∷◌, Option, Result, length}
+use Rattle.std.specs.Prelude.{◌≡◌, ◌⊎◌, ⊤, ℕ, Bool, true, false, not, ◌||◌, ◌&&◌, if◌then◌else◌, List, [], ◌∷◌}
+use Rattle.std.specs.Prelude.{Option, Some, None, Result, length}
 use Rattle.std.specs.List.{All}
 use Rattle.ws_frame.specs.Devices.{Device, HasWritten, IsUntouched}
+use Rattle.ws_frame.specs.declared.source.DataStyle.{DataStyle}
 use Rattle.ws_reports.specs.Reports.{ReportValue, start_text}
 use Rattle.ws_scripts.specs.Scripts.{CanBeRun}
 use Rattle.ws_scripts.specs.declared.script.Case.{Case}
@@ -57,13 +59,17 @@ CanReport options = captures_in_report options ≡ false
 abbrev pub words_given : TestOptions → List (List ℕ)
 words_given options = or_all (names_of options.ids.items)
 
+-- in which style it is told why, where that is asked for: a document tells it too
+abbrev pub explained_with : TestOptions → Option DataStyle
+explained_with options = if options.explain || options.junit then Some options.style else None
+
 -- the words ask for this
 pub record IsPlan (options : TestOptions) (plan : TestPlan) : Type 0 where
   pub can_report : CanReport options
   pub run : IsRunPlan OfCases options.run plan.run
   pub target : plan.target.now ≡ options.run.target.now
   pub capture : plan.capture ≡ options.capture
-  pub explain : plan.explain ≡ (options.explain || options.junit)
+  pub explain : plan.explain ≡ explained_with options
   pub progress : plan.progress ≡ options.progress
   pub can_capture : CanCapture options
   pub cases : AreCasesFor (words_given options) plan.cases.items

@@ -81,7 +81,7 @@ fn sweep_rules<'a>(plan: &'a SweepPlan<'_>, cases: &'a [Case]) -> VisitRules<'a>
         budget: plan.run.budget,
         has_timeouts: plan.run.timeout.is_limited(),
         expected: plan.run.expected,
-        explains: false,
+        explains: None,
         progress: plan.progress,
         telling: Telling::Scripts { all: plan.all },
     }

@@ -6,12 +6,12 @@ ghost use Rattle.ws_frame.specs.Watching.{has_failed};
 ghost use Rattle.wst_commands.specs.Devices.{StaysFailed};
 ghost use Rattle.wst_commands.specs.GivenCases.{names_of};
 ghost use Rattle.wst_run.specs.Test.{CanBeTested, CarriesOut, IsPlan, RefusesTest, ReportsPlan, RunsPlan, RunsPlanOver};
-ghost use Rattle.wst_run.specs.Test.{is_one_case, rules_of};
+ghost use Rattle.wst_run.specs.Test.{explained_with, is_one_case, rules_of};
 
 use crate::clients_at::test_clients_at;
 use std::alloc::Global;
 use std::io::Write;
-use ws_frame::Watched;
+use ws_frame::{DataStyle, Watched};
 use ws_reports::Report;
 use ws_suite::Case;
 use wst_commands::{Exit, Fault, cases_of, deliver, end_run, is_glob};
@@ -32,8 +32,8 @@ pub struct TestPlan<'a> {
     pub target: &'a str,
     /// The capture of the one case is written in place of the verdicts.
     pub capture: bool,
-    /// Below a verdict other than Pass it is told why.
-    pub explain: bool,
+    /// Below a verdict other than Pass it is told why, with payloads in this style, where one is named.
+    pub explain: Option<DataStyle>,
     /// The name of each case is told before it runs.
     pub progress: bool,
     pub cases: Vec<Case>,
@@ -168,10 +168,21 @@ pub fn plan_test<'a>(alloc: Global, options: &TestOptions<'a>) -> Result<TestPla
         run,
         target: options.run.target,
         capture: options.capture,
-        explain: options.explain || options.junit,
+        explain: explained_with(options),
         progress: options.progress,
         cases,
     })
+}
+
+/// In which style it is told why, where that is asked for: a document tells it too.
+fn explained_with(options: &TestOptions<'_>) -> Option<DataStyle>
+    ensures { result ≡ explained_with options.now }
+{
+    if options.explain || options.junit {
+        Some(options.style)
+    } else {
+        None
+    }
 }
 
 /// Whether the words are the name of one case.

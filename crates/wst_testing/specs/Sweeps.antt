@@ -80,7 +80,7 @@ case_rules rules =
       tested = rules.tested;
       expected = rules.expected;
       key = rules.key;
-      explains = false;
+      explains = None;
       progress = false;
       is_limited = false;
     }

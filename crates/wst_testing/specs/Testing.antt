@@ -1,7 +1,7 @@
 -- Cases run over new ends: what a report has of them is written, of each as soon as it is judged, and of the total; and
 -- what is told on the fault output.
 use Rattle.std.specs.Prelude.{◌≡◌, ◌⊎◌, ℕ, ◌+◌, ◌<◌, true, false, List, [], ◌∷◌, ◌++◌}
-use Rattle.std.specs.Prelude.{length, map, take, Result, MatchResult, codes, string_bytes}
+use Rattle.std.specs.Prelude.{is_some, length, map, take, Result, MatchResult, codes, string_bytes}
 use Rattle.std.specs.List.{AllByRecursion, concat}
 use Rattle.ws_wire.specs.declared.role.Role.{Role}
 use Rattle.ws_frame.specs.Devices.{Device, HasBegun, HasWritten, IsUntouched}
@@ -40,7 +40,8 @@ use Rattle.wst_testing.specs.declared.testing.RunRules.{RunRules}
 abbrev pub IsOutcomeOf : RunRules → Meeting → Outcome → Type 0
 IsOutcomeOf rules (meeting.Ran transcript) (outcome.Judged told) =
     IsJudgementOf rules.explains rules.tested rules.expected transcript told
-IsOutcomeOf rules (meeting.Refused refusal) (outcome.HeadRefused told) = told ≡ told_refusal rules.explains refusal
+IsOutcomeOf rules (meeting.Refused refusal) (outcome.HeadRefused told) =
+    told ≡ told_refusal (is_some rules.explains) refusal
 IsOutcomeOf rules (meeting.NoConnection why) (outcome.NoConnection told) = told ≡ why
 IsOutcomeOf rules _ _ = ⊥
 

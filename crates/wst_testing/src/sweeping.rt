@@ -150,7 +150,7 @@ fn case_rules(rules: SweepRules) -> RunRules
         tested: rules.tested,
         expected: rules.expected,
         key,
-        explains: false,
+        explains: None,
         progress: false,
         is_limited: false,
     }

@@ -23,7 +23,7 @@ use std::alloc::Global;
 use std::io::Write;
 use ws_base::NoMemory;
 use ws_connection::HeadRefusal;
-use ws_frame::{Watched, write_whole};
+use ws_frame::{DataStyle, Watched, write_whole};
 use ws_reports::Report;
 use ws_suite::{Case, Expectation};
 use ws_upgrade::HeadFault;
@@ -40,8 +40,8 @@ pub struct RunRules {
     pub expected: Expectation,
     /// The masking key of the client's frames.
     pub key: [u8; 4],
-    /// Below a verdict other than Pass it is told why.
-    pub explains: bool,
+    /// Below a verdict other than Pass it is told why, with payloads in this style, where one is named.
+    pub explains: Option<DataStyle>,
     /// The name of each case is told before it runs.
     pub progress: bool,
     /// Tested ends are waited for in time: a case without a connection doesn't end the run then, but the third in a
@@ -236,7 +236,7 @@ pub(crate) fn judged(alloc: Global, rules: RunRules, meeting: Meeting) -> Result
             Ok(Outcome::Judged(told))
         }
         Meeting::Refused(refusal) => {
-            let told = told_refusal(rules.explains, refusal);
+            let told = told_refusal(rules.explains.is_some(), refusal);
             Ok(Outcome::HeadRefused(told))
         }
         Meeting::NoConnection(why) => Ok(Outcome::NoConnection(why)),

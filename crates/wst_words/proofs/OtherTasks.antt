@@ -101,7 +101,8 @@ judge_lacks : (rows : List Row) (options : JudgeOptions) → LacksOneOf rows jud
 judge_lacks rows options (inl role) asks = role options.role asks.0
 judge_lacks rows options (inr (inl expect)) asks = expect options.expect asks.1
 judge_lacks rows options (inr (inr (inl explain))) asks = explain options.explain asks.2
-judge_lacks rows options (inr (inr (inr none))) asks = absurd none
+judge_lacks rows options (inr (inr (inr (inl shown)))) asks = shown options.style asks.3
+judge_lacks rows options (inr (inr (inr (inr none)))) asks = absurd none
 
 pub no_judge : (name : Text) (rows : List Row) → name ≡ codes "judge" → LacksOneOf rows judge_command.arguments
     → CommandAsksNothing (Some (name, rows))
@@ -167,7 +168,8 @@ sweep_own = argument_or (codes "steps") Number (codes "2") ∷ argument (codes "
     ∷ argument (codes "progress") Flag ∷ []
 
 abbrev test_own : List ArgumentRow
-test_own = argument (codes "capture") Flag ∷ argument (codes "explain") Flag ∷ argument (codes "progress") Flag
+test_own = argument (codes "capture") Flag ∷ argument (codes "explain") Flag
+    ∷ argument_or (codes "data") Style (codes "hex") ∷ argument (codes "progress") Flag
     ∷ argument (codes "known") Flag ∷ argument (codes "junit") Flag ∷ argument (codes "ids") Words ∷ []
 
 abbrev send_own : List ArgumentRow
@@ -180,11 +182,12 @@ test_lacks rows options lacks asks = run_lacks rows options.run test_own none la
     none : LacksOneOf rows test_own → ⊥
     none (inl capture) = capture options.capture asks.capture
     none (inr (inl explain)) = explain options.explain asks.explain
-    none (inr (inr (inl progress))) = progress options.progress asks.progress
-    none (inr (inr (inr (inl known)))) = known options.known asks.known
-    none (inr (inr (inr (inr (inl junit))))) = junit options.junit asks.junit
-    none (inr (inr (inr (inr (inr (inl ids)))))) = absurd ids
-    none (inr (inr (inr (inr (inr (inr other)))))) = absurd other
+    none (inr (inr (inl shown))) = shown options.style asks.style
+    none (inr (inr (inr (inl progress)))) = progress options.progress asks.progress
+    none (inr (inr (inr (inr (inl known))))) = known options.known asks.known
+    none (inr (inr (inr (inr (inr (inl junit)))))) = junit options.junit asks.junit
+    none (inr (inr (inr (inr (inr (inr (inl ids))))))) = absurd ids
+    none (inr (inr (inr (inr (inr (inr (inr other))))))) = absurd other
 
 pub no_test : (name : Text) (rows : List Row) → name ≡ codes "test" → LacksOneOf rows test_command.arguments
     → CommandAsksNothing (Some (name, rows))

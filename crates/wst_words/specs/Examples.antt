@@ -211,7 +211,8 @@ abbrev judge_words : List Text
 judge_words = words (codes "judge" ∷ [])
 
 pub plain_judge : (places : Places)
-    → AsksFor (wst_app places) judge_words (Judge (record { role = Server; expect = Echo; explain = false }))
+    → AsksFor (wst_app places) judge_words
+    (Judge (record { role = Server; expect = Echo; explain = false; style = Hex }))
 unfolding on_words
 plain_judge places = (
   refl,
@@ -221,16 +222,19 @@ plain_judge places = (
       record { word = codes "server"; has_word = refl; value = refl },
       record { word = codes "echo"; has_word = refl; value = refl },
       refl,
+      styled _ (codes "hex") refl,
     ),
   ),
 )
 
--- and `wst judge --role client --explain` one of a client, and tells why
+-- and `wst judge --role client --explain --data text` one of a client, and tells why, with payloads as text
 abbrev explain_words : List Text
-explain_words = words (codes "judge" ∷ codes "--role" ∷ codes "client" ∷ codes "--explain" ∷ [])
+explain_words = words (codes "judge" ∷ codes "--role" ∷ codes "client" ∷ codes "--explain" ∷ codes "--data"
+    ∷ codes "text" ∷ [])
 
 pub explained_judge : (places : Places)
-    → AsksFor (wst_app places) explain_words (Judge (record { role = Client; expect = Echo; explain = true }))
+    → AsksFor (wst_app places) explain_words
+    (Judge (record { role = Client; expect = Echo; explain = true; style = style.Text }))
 unfolding on_words
 explained_judge places = (
   refl,
@@ -240,6 +244,7 @@ explained_judge places = (
       record { word = codes "client"; has_word = refl; value = refl },
       record { word = codes "echo"; has_word = refl; value = refl },
       refl,
+      styled _ (codes "text") refl,
     ),
   ),
 )
@@ -249,7 +254,8 @@ abbrev unechoed_words : List Text
 unechoed_words = words (codes "judge" ∷ codes "--expect" ∷ codes "protocol" ∷ [])
 
 pub protocol_judge : (places : Places)
-    → AsksFor (wst_app places) unechoed_words (Judge (record { role = Server; expect = Protocol; explain = false }))
+    → AsksFor (wst_app places) unechoed_words
+    (Judge (record { role = Server; expect = Protocol; explain = false; style = Hex }))
 unfolding on_words
 protocol_judge places = (
   refl,
@@ -259,6 +265,7 @@ protocol_judge places = (
       record { word = codes "server"; has_word = refl; value = refl },
       record { word = codes "protocol"; has_word = refl; value = refl },
       refl,
+      styled _ (codes "hex") refl,
     ),
   ),
 )

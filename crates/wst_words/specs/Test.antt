@@ -1,10 +1,10 @@
 -- The command `test`: its arguments, and what they give.
 use Rattle.std.specs.Prelude.{◌≡◌, List, [], ◌∷◌, ◌++◌, codes, map}
 use Rattle.clap.specs.Words.{Row}
-use Rattle.wst_words.specs.Arguments.{argument}
+use Rattle.wst_words.specs.Arguments.{argument, argument_or}
 use Rattle.wst_words.specs.Commands.{CommandRow}
-use Rattle.wst_words.specs.declared.arguments.ArgumentKind.TheVariants.{Flag, Words}
-use Rattle.wst_words.specs.Options.{GivesFlag, given_words}
+use Rattle.wst_words.specs.declared.arguments.ArgumentKind.TheVariants.{Flag, Style, Words}
+use Rattle.wst_words.specs.Options.{GivesFlag, GivesStyle, given_words}
 use Rattle.wst_words.specs.RunOptions.{AsksForRun, run_arguments_without_timeout}
 use Rattle.wst_words.specs.declared.test.TestOptions.{TestOptions}
 
@@ -15,6 +15,7 @@ test_command = record {
   arguments = run_arguments_without_timeout
       ++ argument (codes "capture") Flag
       ∷ argument (codes "explain") Flag
+      ∷ argument_or (codes "data") Style (codes "hex")
       ∷ argument (codes "progress") Flag
       ∷ argument (codes "known") Flag
       ∷ argument (codes "junit") Flag
@@ -26,6 +27,7 @@ pub record AsksToTest (rows : List Row) (options : TestOptions) : Type 0 where
   pub run : AsksForRun rows options.run
   pub capture : GivesFlag rows (codes "capture") options.capture
   pub explain : GivesFlag rows (codes "explain") options.explain
+  pub style : GivesStyle rows (codes "data") options.style
   pub progress : GivesFlag rows (codes "progress") options.progress
   pub known : GivesFlag rows (codes "known") options.known
   pub junit : GivesFlag rows (codes "junit") options.junit

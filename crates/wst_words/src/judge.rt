@@ -9,9 +9,11 @@ ghost use Rattle.wst_words.specs.Arguments.{argument_row};
 use crate::arguments::Argument;
 use crate::arguments::ArgumentKind::{End, Flag};
 use crate::commands::HelpText;
-use crate::options::{end_of, expectation_of, flag_of};
+use crate::options::{end_of, expectation_of, flag_of, style_of};
 use crate::run_options::EXPECT;
+use crate::show::DATA;
 use clap::ArgMatches;
+use ws_frame::DataStyle;
 use ws_scripts::Expectation;
 use ws_wire::Role;
 
@@ -24,10 +26,16 @@ pub struct JudgeOptions {
     pub expect: Expectation,
     /// Below a verdict other than PASS it is told why.
     pub explain: bool,
+    /// How the lines that tell why show payloads.
+    pub style: DataStyle,
 }
 
+/// What help says of `--data` where it is about the lines that tell why.
+pub(crate) const EXPLAINED_DATA_HELP: &str =
+    "With --explain: payloads as `hex` (up to 16 bytes), as\n`text` if UTF-8, or `all` of them as hex";
+
 /// Its arguments.
-static ARGUMENTS: [Argument; 3] = [
+static ARGUMENTS: [Argument; 4] = [
     Argument {
         name: "role",
         kind: End,
@@ -48,6 +56,10 @@ static ARGUMENTS: [Argument; 3] = [
         heading: None,
         help: "Print what was expected and received, and the rule",
     },
+    Argument {
+        help: EXPLAINED_DATA_HELP,
+        ..DATA
+    },
 ];
 
 /// The arguments of `judge`.
@@ -65,10 +77,12 @@ pub(crate) fn judge_options(options: &ArgMatches<'_>) -> Option<JudgeOptions>
     let role = end_of(options, "role")?;
     let expect = expectation_of(options, "expect")?;
     let explain = flag_of(options, "explain")?;
+    let style = style_of(options, "data")?;
     Some(JudgeOptions {
         role,
         expect,
         explain,
+        style,
     })
 }
 

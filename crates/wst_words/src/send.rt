@@ -120,7 +120,7 @@ const AFTER_HELP: &str =
   ping key=- -         no mask (key=37fa213d sets one), no payload
   close=1000           a close frame with this code
   wait                 the turn ends: wait for the replies that are due
-A text in quotes is printable ASCII; any other payload is written in hex.
+A text in quotes is UTF-8, with JSON's escapes; other payloads are in hex.
 
 Printed are frames sent (`>`) and received (`<`), and last who ended the
 connection: `end peer`, `end tester` (wst did) or `end broken`.

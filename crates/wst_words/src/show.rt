@@ -36,7 +36,7 @@ pub(crate) const DATA: Argument = Argument {
     default: Some("hex"),
     value_name: "HOW",
     heading: None,
-    help: "Print DATA as `hex` (up to 16 bytes), as `text` if it is\nprintable ASCII, or `all` of it as hex",
+    help: "Print DATA as `hex` (up to 16 bytes), as `text` if it is\nUTF-8, or `all` of it as hex",
 };
 
 /// Its arguments.

@@ -10,13 +10,16 @@ ghost use Rattle.wst_words.specs.Arguments.{argument_row};
 use crate::arguments::Argument;
 use crate::arguments::ArgumentKind::{Flag, Words};
 use crate::commands::HelpText;
-use crate::options::{flag_of, words_of};
+use crate::judge::EXPLAINED_DATA_HELP;
+use crate::options::{flag_of, style_of, words_of};
 use crate::run_options::{
     BUDGET, CONNECT, DEADLINE, EXPECT, HEADER, KEY, PROTOCOLS, ROLE, RunOptions, TARGET, TIMEOUT,
     WAIT, run_options,
 };
+use crate::show::DATA;
 use clap::ArgMatches;
 use std::alloc::{AllocError, Global};
+use ws_frame::DataStyle;
 
 /// What `test` is asked to run.
 #[derive(Drop)]
@@ -27,6 +30,8 @@ pub struct TestOptions<'a> {
     pub capture: bool,
     /// Below a verdict other than PASS it is told why.
     pub explain: bool,
+    /// How the lines that tell why show payloads.
+    pub style: DataStyle,
     /// The name of each case is told before it runs.
     pub progress: bool,
     /// The input has the lines of an earlier run, and what is otherwise is told.
@@ -38,7 +43,7 @@ pub struct TestOptions<'a> {
 }
 
 /// Its arguments.
-static ARGUMENTS: [Argument; 17] = [
+static ARGUMENTS: [Argument; 18] = [
     ROLE,
     EXPECT,
     KEY,
@@ -65,6 +70,11 @@ static ARGUMENTS: [Argument; 17] = [
         value_name: "",
         heading: Some("Output"),
         help: "Print what was expected and received, and the rule",
+    },
+    Argument {
+        heading: Some("Output"),
+        help: EXPLAINED_DATA_HELP,
+        ..DATA
     },
     Argument {
         name: "progress",
@@ -137,6 +147,7 @@ fn options_with<'a>(
 {
     let capture = flag_of(options, "capture")?;
     let explain = flag_of(options, "explain")?;
+    let style = style_of(options, "data")?;
     let progress = flag_of(options, "progress")?;
     let known = flag_of(options, "known")?;
     let junit = flag_of(options, "junit")?;
@@ -144,6 +155,7 @@ fn options_with<'a>(
         run,
         capture,
         explain,
+        style,
         progress,
         known,
         junit,

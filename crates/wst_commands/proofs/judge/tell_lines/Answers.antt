@@ -1,6 +1,7 @@
 -- What is delivered is the verdict's line with the lines of the explanation below it.
 use Rattle.std.proofs.Common.{◌≡◌, ◌++◌, None, refl, rules}
 use Rattle.ws_frame.specs.Devices.{watched}
+use Rattle.ws_frame.specs.declared.source.DataStyle.TheVariants.{Hex}
 use Rattle.wst_commands.specs.Explaining.{ending_line, explanation_lines}
 use Rattle.wst_commands.specs.InnerExplaining.{explained_text, lines_after_replies}
 use Rattle.wst_commands.specs.Judge.{exit_of, verdict_line}
@@ -21,7 +22,7 @@ returns g c =
     let got_is : got_end ≡ ending_line Got x.found.fault x.got.ending
     ++ lines_after_replies lines.tested lines.expected lines.cut x = search rules in
     delivers_same (exit_of x.verdict) (exit_of x.verdict) (explained_text line x due_end got_end)
-    (verdict_line x.verdict ++ explanation_lines lines.tested lines.expected lines.cut x) c.deliver_explained.result
+    (verdict_line x.verdict ++ explanation_lines Hex lines.tested lines.expected lines.cut x) c.deliver_explained.result
     (watched g.W.Write.contents c.args.writer.now c.deliver_explained.new.writer) refl
     (explained_is x lines.tested lines.expected lines.cut line due_end got_end line_is due_is got_is)
     c.deliver_explained.ensures

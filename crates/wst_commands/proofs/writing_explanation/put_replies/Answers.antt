@@ -7,6 +7,7 @@ use Rattle.ws_suite.specs.declared.evidence.InTurn.{InTurn}
 use Rattle.ws_suite.specs.declared.evidence.Reply.{Reply}
 use Rattle.ws_suite.specs.Kept.{reply_in}
 use Rattle.ws_rooms.proofs.Waiting.{stands, stands_behind, stops}
+use Rattle.ws_frame.specs.declared.source.DataStyle.TheVariants.{Hex}
 use Rattle.wst_commands.specs.Explaining.{reply_line}
 use Rattle.wst_commands.proofs.PutBehind.{begun_on, one_text_more, texts_behind}
 use Rattle.wst_commands.proofs.writing_explanation.put_replies.Goals as goal
@@ -26,7 +27,7 @@ returns-in_err-put g c =
     let (done, parts, first) = c.loop-reply.invariant.1 in
     let room = c.args.room.now in
     let all = c.args.replies.now in
-    let text = reply_line c.args.side in
+    let text = reply_line Hex c.args.side in
     let x = reply_in c.in-Some.reply in
     let others = c.next.new.self in
     let left : c.loop-reply.walk ≡ x ∷ others = search rules in
@@ -42,7 +43,7 @@ pub loop-reply-preserved : goal.loop-reply-preserved
 loop-reply-preserved g c =
     let (done, parts, first) = c.loop-reply.invariant.1 in
     let room = c.args.room.now in
-    let text = reply_line c.args.side in
+    let text = reply_line Hex c.args.side in
     let x = reply_in c.in-Some.reply in
     let others = c.next.new.self in
     let left : c.loop-reply.walk ≡ x ∷ others = search rules in
@@ -62,7 +63,7 @@ pub returns : goal.returns
 returns g c =
     let (done, parts, first) = c.loop-reply.invariant.1 in
     let room = c.args.room.now in
-    let text = reply_line c.args.side in
+    let text = reply_line Hex c.args.side in
     let none : c.loop-reply.walk ≡ [] = search rules in
     let all : c.args.replies.now ≡ done = parts ∙ (ap (λ (l : List (InTurn Reply)). done ++ l) none ∙ append-nil done) in
     (first.0, first.1, c.loop-reply.invariant.0, ap (λ (l : List (InTurn Reply)). room ++ flat_map text l) all ∙ first.2)

@@ -2,6 +2,7 @@
 use Rattle.std.proofs.Common.{◌≡◌, ◌∙◌, ℕ, List, [], ◌++◌, ap, append_assoc, append-nil, refl, rules, sym}
 use Rattle.std.specs.List.{flat_map}
 use Rattle.ws_rooms.proofs.Waiting.{all_written, begun_more, stands, stands_behind, stops_all}
+use Rattle.ws_frame.specs.declared.source.DataStyle.TheVariants.{Hex}
 use Rattle.wst_commands.specs.Explaining.{reply_line}
 use Rattle.wst_commands.specs.declared.explanation_lines.Side.TheVariants.{Due, Got}
 use Rattle.wst_commands.proofs.PutBehind.{begun_on}
@@ -11,8 +12,8 @@ pub returns-in_err-put : goal.returns-in_err-put
 returns-in_err-put g c =
     let line = c.args.line.now in
     let x = c.args.explanation.now in
-    let due = flat_map (reply_line Due) x.due.replies ++ c.args.due_end.now in
-    let got = flat_map (reply_line Got) x.got.replies ++ c.args.got_end.now in
+    let due = flat_map (reply_line Hex Due) x.due.replies ++ c.args.due_end.now in
+    let got = flat_map (reply_line Hex Got) x.got.replies ++ c.args.got_end.now in
     let all = line ++ (due ++ got) in
     let head = c.new-room.result ++ c.as_bytes.result.now in
     let is : head ≡ line = search rules in
@@ -24,8 +25,8 @@ pub returns-in_err-put_side : goal.returns-in_err-put_side
 returns-in_err-put_side g c =
     let line = c.args.line.now in
     let x = c.args.explanation.now in
-    let due = flat_map (reply_line Due) x.due.replies ++ c.args.due_end.now in
-    let got = flat_map (reply_line Got) x.got.replies ++ c.args.got_end.now in
+    let due = flat_map (reply_line Hex Due) x.due.replies ++ c.args.due_end.now in
+    let got = flat_map (reply_line Hex Got) x.got.replies ++ c.args.got_end.now in
     let all = line ++ (due ++ got) in
     let head = c.new-room.result ++ c.as_bytes.result.now in
     let is : head ≡ line = search rules in
@@ -38,8 +39,8 @@ pub returns-in_err-put_side-2 : goal.returns-in_err-put_side-2
 returns-in_err-put_side-2 g c =
     let line = c.args.line.now in
     let x = c.args.explanation.now in
-    let due = flat_map (reply_line Due) x.due.replies ++ c.args.due_end.now in
-    let got = flat_map (reply_line Got) x.got.replies ++ c.args.got_end.now in
+    let due = flat_map (reply_line Hex Due) x.due.replies ++ c.args.due_end.now in
+    let got = flat_map (reply_line Hex Got) x.got.replies ++ c.args.got_end.now in
     let all = line ++ (due ++ got) in
     let head = c.new-room.result ++ c.as_bytes.result.now in
     let is : head ≡ line = search rules in
@@ -57,8 +58,8 @@ pub returns : goal.returns
 returns g c =
     let line = c.args.line.now in
     let x = c.args.explanation.now in
-    let due = flat_map (reply_line Due) x.due.replies ++ c.args.due_end.now in
-    let got = flat_map (reply_line Got) x.got.replies ++ c.args.got_end.now in
+    let due = flat_map (reply_line Hex Due) x.due.replies ++ c.args.due_end.now in
+    let got = flat_map (reply_line Hex Got) x.got.replies ++ c.args.got_end.now in
     let all = line ++ (due ++ got) in
     let head = c.new-room.result ++ c.as_bytes.result.now in
     let is : head ≡ line = search rules in

@@ -14,7 +14,7 @@ pub loop-reply-preserved : goal.loop-reply-preserved
 loop-reply-preserved g c = λ plain.
     let i = c.loop-reply.invariant plain in
     let first = reply_in c.in-Some.reply in
-    let line = reply_line c.args.self.now.side in
+    let line = reply_line c.args.self.now.style c.args.self.now.side in
     let left : c.loop-reply.replies ≡ first ∷ c.next.new.self = search rules in
     let written : HasWritten g.W.Write.write_str_gives c.loop-reply.f (line first) c.write.new.self = search rules in
     let joined : flat_map line i.0 ++ line first ≡ flat_map line (i.0 ++ first ∷ []) =
@@ -30,7 +30,7 @@ returns-clause-writes g c = λ plain ok.
     let side = c.args.self.now.side in
     let direction = c.args.self.now.direction.now in
     let fault = lent_fault c.args.self.now.fault in
-    let line = reply_line side in
+    let line = reply_line c.args.self.now.style side in
     let none : c.loop-reply.replies ≡ [] = search rules in
     let all : direction.replies ≡ i.0 = i.1 ∙ (ap (λ (l : List (InTurn Reply)). i.0 ++ l) none ∙ append-nil i.0) in
     let written : HasWritten g.W.Write.write_str_gives c.loop-reply.f (ending_line side fault direction.ending) c.write-2.new.self = search rules in
