@@ -173,6 +173,11 @@ def run_within(program, calls, memory):
         answers = [answer_to(program, line, limited(memory)) for line in lines]
     else:
         answers = answers_to(program, lines, memory)
+    return wrong_among(program, calls, answers)
+
+
+def wrong_among(program, calls, answers):
+    """The failures of these rows, of which each line has its answer."""
     failures, at = [], 0
     for call in calls:
         got = answers[at : at + len(call.lines)]

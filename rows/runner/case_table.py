@@ -14,22 +14,29 @@ SECONDS = 60
 def calls_of_table(file, program):
     """Two calls for each line of the table: `case NAME`, which wants that line, and `script TEXT` of the text that the
     program writes, which wants its cut and its steps."""
+    return [call for own in lines_of_table(file) for call in (own, call_of_text(own, program))]
+
+
+def lines_of_table(file):
+    """The first of these for each line."""
     calls = []
     for number, line in enumerate(file.read_text().splitlines(), 1):
         if not line.startswith("#"):
-            calls += calls_of_line(file, number, line, program)
+            calls.append(call_of_line(f"{file}:{number}", line))
     if not calls:
         raise BadFile(f"{file}: no table of cases")
     return calls
 
 
-def calls_of_line(file, number, line, program):
+def call_of_line(where, line):
     found = LINE.fullmatch(line)
     if not found:
-        raise BadFile(f"{file}:{number}: no line of a case: {line}")
-    where, name = f"{file}:{number}", found[1]
-    text = subprocess.run([program, "cases", name], stdout=subprocess.PIPE, timeout=SECONDS).stdout
-    return [
-        Call(where, f"case {name}", [f"case {name.encode().hex()}"], [line]),
-        Call(where, f"{program} cases {name}", [f"script {text.hex() or '-'}"], [found[2] + (found[3] or "")]),
-    ]
+        raise BadFile(f"{where}: no line of a case: {line}")
+    return Call(where, f"case {found[1]}", [f"case {found[1].encode().hex()}"], [line])
+
+
+def call_of_text(own, program):
+    found = LINE.fullmatch(own.wanted[0])
+    text = subprocess.run([program, "cases", found[1]], stdout=subprocess.PIPE, timeout=SECONDS).stdout
+    wanted = found[2] + (found[3] or "")
+    return Call(own.where, f"{program} cases {found[1]}", [f"script {text.hex() or '-'}"], [wanted])

@@ -28,57 +28,96 @@ class BadOutput(ValueError):
     """The command wrote something else than the lines of its calls."""
 
 
+@dataclass
+class Play:
+    """Calls at a new endpoint, which the command plays."""
+
+    role: str
+    limit: str
+    is_echo: bool
+    calls: list
+
+    def words(self):
+        return ["session", "--role", self.role, "--limit", self.limit, *(["--echo"] if self.is_echo else [])]
+
+    def script(self):
+        return "".join(f"{call}\n" for call in self.calls).encode()
+
+    def told(self, status, output, faults):
+        """What the command told of them."""
+        if status or faults:
+            raise BadOutput(f"status {status}, {faults.decode(errors='replace')}")
+        return Lines(output.decode().splitlines()).of_calls(self.calls, self.is_echo)
+
+
 def answer_to(program, line, limited):
     """The answer to a line, in which the process is limited so. What is wrong with the command's lines is told in its
     place."""
     try:
-        name, *words = line.split(" ")
-        if name == "session":
-            return answer_calls(program, words, limited)
-        return answer_pieces(program, words, name == "echo_all", limited)
+        return answer_by(line, [play(program, it, limited) for it in plays_of(line)])
     except (BadOutput, OSError, subprocess.TimeoutExpired) as error:
         return f"nothing: {error}"
 
 
-def answer_pieces(program, words, is_echo, limited):
-    """`take_all ROLE LIMIT KEY PIECE ..`: the events, each with the number of bytes that were taken by then, what was
-    put, the status, and how many bytes are held; `echo_all ..`, of an echo: the same, with the status behind the
-    stream's end in the place of the bytes."""
+def play(program, it, limited):
+    """What the command tells of these calls."""
+    pipes = {"input": it.script(), "stdout": subprocess.PIPE, "stderr": subprocess.PIPE, "preexec_fn": limited}
+    ran = subprocess.run([program, *it.words()], timeout=SECONDS, **pipes)
+    return it.told(ran.returncode, ran.stdout, ran.stderr)
+
+
+def plays_of(line):
+    """What the command plays for a line. `take_all ROLE LIMIT KEY PIECE ..` takes the pieces, and `echo_all ..` at an
+    echo, and then once more with the stream's end behind them. For `session ROLE LIMIT ; CALL ; ..` all calls are made,
+    and for each question `status`, `held` and `put` those before it."""
+    name, *words = line.split(" ")
+    if name == "session":
+        (role, limit), *calls = calls_in(words)
+        made = [[call for call in calls[:at] if not is_question(call)] for at in places_of_questions(calls)]
+        whole = [call for call in calls if not is_question(call)]
+        return [Play(role, limit, False, [" ".join(call) for call in some]) for some in (*made, whole)]
     role, limit, key, *pieces = words
     calls = [f"take {piece} {key}" for piece in pieces]
-    told = play(program, role, limit, calls, is_echo, limited)
-    start = "".join(f"{event}, " for event in told.events)
-    start += f"put {told.put or '-'}, {told.status}, "
-    if not is_echo:
-        return start + f"held {told.held}"
-    return start + f"ended {play(program, role, limit, [*calls, 'end'], is_echo, limited).status}"
+    ended = [[*calls, "end"]] if name == "echo_all" else []
+    return [Play(role, limit, name == "echo_all", some) for some in (calls, *ended)]
 
 
-def answer_calls(program, words, limited):
-    """`session ROLE LIMIT ; CALL ; ..`: what each call answers. The questions `status`, `held` and `put` are answered
-    by a run of the calls before them."""
-    (role, limit), *calls = (call.split(" ") for call in " ".join(words).split(" ; "))
-    made, answers = [], []
-    for call in calls:
-        if call[0] not in ("status", "held", "put"):
-            made.append(" ".join(call))
-            answers.append(None)
-            continue
-        told = play(program, role, limit, made, False, limited)
-        answers.append({"status": told.status, "held": f"held {told.held}", "put": f"put {told.put or '-'}"}[call[0]])
-    of_calls = iter(play(program, role, limit, made, False, limited).answers)
-    return " ; ".join(next(of_calls) if answer is None else answer for answer in answers)
+def answer_by(line, told):
+    """The answer to a line, from what was told of each of its plays."""
+    name, *words = line.split(" ")
+    return answer_of_calls(calls_in(words)[1:], told) if name == "session" else answer_of_pieces(*told)
 
 
-def play(program, role, limit, calls, is_echo, limited):
-    """What the command tells of these calls at a new endpoint."""
-    words = ["session", "--role", role, "--limit", limit, *(["--echo"] if is_echo else [])]
-    script = "".join(f"{call}\n" for call in calls).encode()
-    pipes = {"input": script, "stdout": subprocess.PIPE, "stderr": subprocess.PIPE, "preexec_fn": limited}
-    ran = subprocess.run([program, *words], timeout=SECONDS, **pipes)
-    if ran.returncode or ran.stderr:
-        raise BadOutput(f"status {ran.returncode}, {ran.stderr.decode(errors='replace')}")
-    return Lines(ran.stdout.decode().splitlines()).of_calls(calls, is_echo)
+def answer_of_pieces(told, ended=None):
+    """The events, each with the number of bytes that were taken by then, what was put, the status, and how many bytes
+    are held; of an echo the status behind the stream's end in the place of the bytes."""
+    start = "".join(f"{event}, " for event in told.events) + f"put {told.put or '-'}, {told.status}, "
+    return start + (f"ended {ended.status}" if ended else f"held {told.held}")
+
+
+def answer_of_calls(calls, told):
+    """What each call answers."""
+    *questions, whole = told
+    of_calls, of_questions = iter(whole.answers), iter(questions)
+    answers = [answer_of(call, next(of_questions)) if is_question(call) else next(of_calls) for call in calls]
+    return " ; ".join(answers)
+
+
+def answer_of(question, told):
+    return {"status": told.status, "held": f"held {told.held}", "put": f"put {told.put or '-'}"}[question[0]]
+
+
+def calls_in(words):
+    """The parts of a line of a session, each as its words."""
+    return [part.split(" ") for part in " ".join(words).split(" ; ")]
+
+
+def is_question(call):
+    return call[0] in ("status", "held", "put")
+
+
+def places_of_questions(calls):
+    return [at for at, call in enumerate(calls) if is_question(call)]
 
 
 class Lines:
