@@ -170,6 +170,16 @@ class Beating(Application):
             super().take(first, payload)
 
 
+class Foreseeing(Deaf):
+    """With its head come the pong for the ping of the case and one of its own; it answers no ping behind them."""
+
+    def answer_head(self):
+        put = self.client.send
+        self.client.send = lambda head: put(head, frame(PONG, b"Hello, world!"), frame(PONG, b"beat"))
+        super().answer_head()
+        self.client.send = put
+
+
 def told(kind, case, verdict, *lines, limit=1):
     """A server of this kind has this verdict on the case by the protocol, with these lines below it."""
     tested = Tested("--expect=protocol", f"--timeout={limit}", "--explain", case)
@@ -317,6 +327,14 @@ def a_pong_of_its_own_hides_no_answer():
     assert took < 4, took
 
 
+def a_pong_before_its_ping_answers_it():
+    # So it does in one turn, whatever came between; a wait for another pong would need the time limit.
+    began = time.monotonic()
+    told(Foreseeing, "2.2", "PASS", limit=8)
+    took = time.monotonic() - began
+    assert took < 4, took
+
+
 TESTS = [
     a_chat_server,
     a_chat_server_that_closes_at_a_text,
@@ -329,4 +347,5 @@ TESTS = [
     no_message_is_waited_for,
     a_pong_is_waited_for,
     a_pong_of_its_own_hides_no_answer,
+    a_pong_before_its_ping_answers_it,
 ]

@@ -190,22 +190,23 @@ def streams_that_end_inside_the_head():
 
 
 def a_client_that_forgets_the_mask():
-    run = Listening("test", "--explain", ADDRESS, "1.1.1")
-    client = run.client()
-    assert client.get(len(EMPTY_TEXT)) == EMPTY_TEXT
-    client.send(EMPTY_TEXT)
-    assert client.rest() == b""
-    run.ends(
-        "1.1.1 FAIL NotFrames",
-        "  due 1 text -",
-        "  got 1 failed MaskWrong at 2 8100",
-        "  end tester 1",
-        "  rule All that a client sends must be valid (the last `got` line says what was not): masked frames in a valid order, with valid lengths and close "
-        "payloads (RFC 6455 section 5), text in UTF-8 (section 8.1), no end inside a frame and nothing after its close frame (both ours)",
-        "  rule A client masks all frames that it sends, and a server masks none (RFC 6455 section 5.1)",
-        "0 pass, 0 loose, 1 fail",
-        status=1,
-    )
+    for options, due in ((), "-"), (("--data=text",), '""'), (("--data=all",), "-"):
+        run = Listening("test", "--explain", *options, ADDRESS, "1.1.1")
+        client = run.client()
+        assert client.get(len(EMPTY_TEXT)) == EMPTY_TEXT
+        client.send(EMPTY_TEXT)
+        assert client.rest() == b""
+        run.ends(
+            "1.1.1 FAIL NotFrames",
+            f"  due 1 text {due}",
+            "  got 1 failed MaskWrong at 2 8100",
+            "  end tester 1",
+            "  rule All that a client sends must be valid (the last `got` line says what was not): masked frames in a valid order, with valid lengths and close "
+            "payloads (RFC 6455 section 5), text in UTF-8 (section 8.1), no end inside a frame and nothing after its close frame (both ours)",
+            "  rule A client masks all frames that it sends, and a server masks none (RFC 6455 section 5.1)",
+            "0 pass, 0 loose, 1 fail",
+            status=1,
+        )
 
 
 def a_client_that_closes_early():

@@ -32,6 +32,18 @@ define a message); after a violation nothing is sent back, and messages just bef
 1 pass, 0 loose, 1 fail
 """
 
+# A text of two characters, where an empty one is due, and what is told of it by a style of payloads.
+OTHER_TEXT = b'\x81\x03\xc3\xbc"'
+STYLED = """1.1.1 FAIL Messages
+  due 1 text {}
+  due 2 close 1000
+  got 1 text {}
+  end tester 2
+  rule An echo sends back each message, in order, with its kind and payload (ours; RFC 6455 sections 5.4 and 5.6 \
+define a message); after a violation nothing is sent back, and messages just before it may be missing
+0 pass, 0 loose, 1 fail
+"""
+
 EMPTY_PONG = b"\x8a\x00"
 
 LARGE = b"HTTP/1.1 101 Switching Protocols\r\nX: " + b"a" * 9000
@@ -162,6 +174,21 @@ def explained():
     client.send(CLOSE_BACK)
     client.close()
     server.ends(EXPLAINED, status=1)
+
+
+def explained_in_styles():
+    """With `--data`, payloads below a verdict are told as text, or all of them."""
+    for style, due, got in (("hex", "-", "c3bc22"), ("text", '""', '"ü\\""'), ("all", "-", "c3bc22")):
+        server = Tested("--explain", f"--data={style}", "1.1.1")
+        client = server.next()
+        client.send(RESPONSE)
+        sent = request_to(server.address) + EMPTY_TEXT
+        assert client.get(len(sent)) == sent
+        client.send(OTHER_TEXT)
+        assert client.get(len(MASKED_CLOSE)) == MASKED_CLOSE
+        client.send(CLOSE_BACK)
+        client.close()
+        server.ends(STYLED.format(due, got), status=1)
 
 
 def never_answers():
@@ -333,21 +360,23 @@ def sends_without_an_end():
 
 
 def floods_a_case():
-    """One that sends as much as it can costs little more memory than the bytes that are read of it."""
-    server = Tested("--budget=16777216", "1.1.1")
-    client = server.next()
-    client.send(RESPONSE)
-    pings = (b"\x89\x7d" + bytes(125)) * 500  # of messages one is enough: it isn't what is due, and the run ends
-    most = 0
-    try:
-        while True:
-            client.send(pings)
-            most = max_resident(server.process.pid)
-    except OSError:
-        client.close()
-    # On a busy machine it may end before it is looked at once more, so the last of the bytes aren't seen.
-    assert 12_000_000 < most < 80_000_000, most
-    server.ends("1.1.1 FAIL Messages\n0 pass, 0 loose, 1 fail\n", status=1)
+    """One that sends as much as it can, messages or pings, costs little more memory than the bytes that are read of it.
+    It is looked at while the next case waits, with the last of these bytes."""
+    messages, pings = b"\x82\x7e\xff\xff" + bytes(65535), (b"\x89\x7d" + bytes(125)) * 500
+    for frames in (messages, pings):
+        server = Tested("--budget=16777216", "1.1.1", "1.1.1")
+        client = server.next()
+        client.send(RESPONSE)
+        try:
+            while True:
+                client.send(frames)
+        except OSError:
+            client.close()
+        assert server.line() == "1.1.1 FAIL Messages"
+        most = max_resident(server.process.pid)
+        assert 16_777_216 < most < 80_000_000, most
+        passes(server)
+        server.ends("1.1.1 PASS\n1 pass, 0 loose, 1 fail\n", status=1)
 
 
 def each_piece_goes_out_at_once():
@@ -432,6 +461,7 @@ TESTS = [
     unlawful_and_waits,
     garbage_for_a_head,
     explained,
+    explained_in_styles,
     never_answers,
     silent_in_the_head,
     silent_behind_the_head,
