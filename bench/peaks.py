@@ -35,11 +35,7 @@ MOST_OF_OUTPUT = {"session": 1.26}
 # as it grows may stay resident.
 MOST_OF_EMPTY = 4.1
 EMPTY = ("pongs got", "empty texts got", "pings got")
-# What isn't answered in order is sorted in a tree, by its payload; and by the protocol an explanation keeps what is owed
-# beside what is due.
-MOST_OF_UNMATCHED = 8
-MOST_OF_OWED = 7
-MOST_OF_BEHIND = 5
+MOST_OF_BEHIND = 5  # by the protocol
 
 PING, PONG, TEXT = "898000000000", "8a8000000000", "81810000000061"  # of a client; the key is zero
 PING_BACK, PONG_BACK, TEXT_BACK = "8900", "8a00", "810161"  # of a server
@@ -64,12 +60,13 @@ class Distinct(NamedTuple):
     head: str
     payload: int
     share: float = 1.0
+    first: int = 0
 
     def put(self, size, file):
         count = int(size * self.share / (len(self.head) + 2 * self.payload))
         wrapped = 256**self.payload
         for start in range(0, count, 50_000):
-            numbers = range(start, min(count, start + 50_000))
+            numbers = range(self.first + start, self.first + min(count, start + 50_000))
             digits = (f"{i % wrapped:0{2 * self.payload}x}" if self.payload else "" for i in numbers)
             file.write("".join(self.head + x for x in digits).encode())
 
@@ -131,6 +128,10 @@ def of_ends(key, sent, got):
         )
         pongs = Distinct(got("8a", size), size)
         inputs[f"pongs of {size} got, for no ping"] = ended(key, "turn\n> " + sent("89", 1) + "61\n< ", pongs, "\n")
+        both = len(sent("89", size)) + len(got("8a", size)) + 4 * size
+        pings = Distinct(sent("89", size), size, (len(sent("89", size)) + 2 * size) / both)
+        pongs = Distinct(got("8a", size), size, (len(got("8a", size)) + 2 * size) / both, 5_000_000)
+        inputs[f"pings of {size} sent, as many pongs for none"] = ended(key, "turn\n> ", pings, "\n< ", pongs, "\n")
     for size in (0, 4):
         closes = "turn\n> " + sent("88", 2) + "03e8\n< " + got("88", 2) + "03e8"
         inputs[f"pongs of {size} behind a close"] = ended(key, closes, Distinct(got("8a", size), size), "\n")
@@ -240,12 +241,8 @@ def tell_peaks(program):
 
 
 def most_of_judge(words, name):
-    if name.endswith((" of none", " no ping")):
-        return MOST_OF_UNMATCHED
     if "protocol" in words and name.endswith("behind a close"):
         return MOST_OF_BEHIND
-    if {"protocol", "--explain"} <= set(words) and name.startswith("pings") and name.endswith("sent"):
-        return MOST_OF_OWED
     return MOST_OF_EMPTY if name in EMPTY or " of 0 " in name else MOST_OF["judge"]
 
 
