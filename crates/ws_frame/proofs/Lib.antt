@@ -12,3 +12,4 @@ pub mod Streams
 pub mod OneByte
 pub mod PutFrames
 pub mod EitherWay
+pub mod MarksAhead

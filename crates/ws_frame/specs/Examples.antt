@@ -9,7 +9,7 @@ use Rattle.ws_frame.specs.declared.showing.StreamEnd.TheVariants.{CutAt, BadLeng
 use Rattle.ws_frame.specs.declared.source.Mark.TheVariants.{Sent}
 use Rattle.ws_frame.specs.declared.source.DataStyle.TheVariants.{Hex, Text, All}
 use Rattle.ws_formats.specs.QuotedText.{quoted_word}
-use Rattle.ws_frame.specs.Lines.{alone, plain, line_of, last_line, payload_word}
+use Rattle.ws_frame.specs.Lines.{alone, marked_at, plain, line_of, last_line, payload_word}
 
 -- the line of "Hello", sent by a server
 pub line_of_hello : line_of (plain Server) 0 (record {
@@ -28,6 +28,31 @@ pub line_of_odd_frame : line_of (plain Client) 11 (record {
     ≡ codes "11 op3 fin=0 rsv=4 key=- len=0 two - !mask !form\n"
 unfolding digits
 line_of_odd_frame = refl
+
+-- a text that is no UTF-8, and a close of half a code, each at the place of the fault; one byte on there is no mark
+pub line_of_a_bad_text : line_of (marked_at (plain Server) 4) 4 (record {
+  header = record { fin = true; rsv = 0; opcode = 1; key = None; len = 1; form = Two };
+  payload = 255 ∷ [];
+})
+    ≡ codes "4 text fin=1 rsv=0 key=- len=1 two ff !form !text\n"
+unfolding digits
+line_of_a_bad_text = refl
+
+pub line_of_a_bad_close : line_of (marked_at (plain Server) 0) 0 (record {
+  header = record { fin = true; rsv = 0; opcode = 8; key = None; len = 1; form = Short };
+  payload = 3 ∷ [];
+})
+    ≡ codes "0 close fin=1 rsv=0 key=- len=1 short 03 !close\n"
+unfolding digits
+line_of_a_bad_close = refl
+
+pub line_beside_the_fault : line_of (marked_at (plain Server) 4) 5 (record {
+  header = record { fin = true; rsv = 0; opcode = 0; key = None; len = 1; form = Short };
+  payload = 255 ∷ [];
+})
+    ≡ codes "5 cont fin=1 rsv=0 key=- len=1 short ff\n"
+unfolding digits
+line_beside_the_fault = refl
 
 -- what is computed at bytes that are written out
 unfoldable on_bytes : ⊤
@@ -79,7 +104,8 @@ pub last_line_of_cut : last_line (plain Server) (CutAt 7) ≡ codes "cut at 7\n"
 unfolding digits
 last_line_of_cut = refl
 
-pub last_line_of_bad_length : last_line (record { from = Client; mark = Sent; style = Hex }) (BadLengthAt 0)
+pub last_line_of_bad_length :
+    last_line (record { from = Client; mark = Sent; style = Hex; fault = None }) (BadLengthAt 0)
     ≡ codes "> bad length at 0\n"
 unfolding digits
 last_line_of_bad_length = refl

@@ -1,7 +1,11 @@
 -- The lines of a stream that comes piece by piece, with payloads in any style (RFC 6455 section 5.2), and what each
 -- call writes of them.
-use Rattle.std.specs.Prelude.{◌≡◌, ◌<◌, ◌+◌, ◌^◌, ℕ, Bool, true, false, List, ◌++◌, length, Result, Ok, Err, ⊤}
+use Rattle.std.specs.Prelude.{◌≡◌, ◌<◌, ◌≤◌, ◌+◌, ◌^◌, ℕ, Bool, true, false, List, ◌++◌, length, None, Result, Ok}
+use Rattle.std.specs.Prelude.{Err, ⊤}
+use Rattle.std.specs.List.{flat_map}
+use Rattle.ws_wire.specs.Frame.{WireFrame, wire_bytes}
 use Rattle.ws_wire.specs.Header.{AreBytes}
+use Rattle.ws_wire.specs.Stream.{SplitsIntoAnyForm}
 use Rattle.ws_frame.specs.declared.source.DataStyle.{DataStyle}
 use Rattle.ws_frame.specs.declared.source.Source.{Source}
 use Rattle.ws_frame.specs.declared.payload_lines.PayloadLines.{PayloadLines}
@@ -66,6 +70,17 @@ IsTakenMore new taken written failed (Err fault) =
 abbrev pub TakesMore : FrameLines → FrameLines → List ℕ → Device → Result (Unit {0}) ShowFault → Type 0
 TakesMore old new piece output result = (taken : List ℕ) (written : List ℕ) → HasTakenFrames old taken written
     → (more : List ℕ) × HasWritten more output × IsTakenMore new (taken ++ piece) (written ++ more) output.failed result
+
+-- the whole frames of these bytes end at this place or in front of it
+abbrev pub EndBy : List ℕ → ℕ → Type 0
+EndBy bytes place = (frames : List WireFrame) (rest : List ℕ) → SplitsIntoAnyForm bytes frames rest
+    → length (flat_map wire_bytes frames) ≤ place
+
+-- of a stream without a mark the frame at this place is marked: while its line isn't written, all stands as before
+abbrev pub MarksAhead : FrameLines → FrameLines → ℕ → Type 0
+MarksAhead old new place = (frames_source old).fault ≡ None
+    → (taken : List ℕ) (written : List ℕ) → HasTakenFrames old taken written → EndBy taken place
+    → HasTakenFrames new taken written
 
 -- the last line of the stream was written; or a beginning of it
 abbrev pub EndsFrames : FrameLines → Device → Result (Unit {0}) WriteFault → Type 0

@@ -3,12 +3,12 @@
 use Rattle.std.specs.Prelude.{ℕ, ◌+◌, ◌/◌, ◌%◌, Bool, List, [], ◌∷◌, ◌++◌, codes}
 use Rattle.std.specs.List.{concat}
 use Rattle.std.specs.Fmt.{decimal}
-use Rattle.ws_wire.specs.declared.role.Role.{Role}
 use Rattle.ws_wire.specs.Header.{HeaderFields, form_word}
 use Rattle.ws_formats.specs.Words.{opcode_word, bit_word}
 use Rattle.ws_frame.specs.declared.frame_line.FrameLine.{FrameLine}
 use Rattle.ws_frame.specs.declared.source.Mark.{Mark}
-use Rattle.ws_frame.specs.Lines.{key_word, mark_word, mask_mark, form_mark, line_of}
+use Rattle.ws_frame.specs.declared.source.Source.{Source}
+use Rattle.ws_frame.specs.Lines.{fault_mark, key_word, mark_word, mask_mark, form_mark, line_of}
 
 -- FIN and the reserved bits, up to the word for the masking key
 abbrev pub bits_words : Bool → ℕ → List ℕ
@@ -25,9 +25,10 @@ layout_words header = concat (
     key_word header.key ∷ codes " len=" ∷ decimal header.len ∷ codes " " ∷ form_word header.form ∷ codes " " ∷ [])
 
 -- the remarks, and the end of the line
-abbrev pub end_words : Role → HeaderFields → List ℕ
-end_words from header = concat (
-    mask_mark from header.key ∷ form_mark header.form header.len ∷ codes "\n" ∷ [])
+abbrev pub end_words : Source → ℕ → HeaderFields → List ℕ
+end_words source offset header = concat (
+    mask_mark source.from header.key ∷ form_mark header.form header.len
+    ∷ fault_mark source.fault offset header.opcode ∷ codes "\n" ∷ [])
 
 -- what stands before a payload
 abbrev pub front_words : Mark → ℕ → HeaderFields → List ℕ

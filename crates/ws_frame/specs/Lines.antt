@@ -81,6 +81,12 @@ mask_mark Server (Some _) = codes " !mask"
 abbrev pub form_mark : Form → ℕ → List ℕ
 form_mark form len = if is_longer_than_needed form len then codes " !form" else []
 
+-- the frame whose payload is the stream's first violation is marked, where that is known: a close, or one of a text
+abbrev pub fault_mark : Option ℕ → ℕ → ℕ → List ℕ
+fault_mark None offset opcode = []
+fault_mark (Some place) offset opcode =
+    if place == offset then (if opcode == 8 then codes " !close" else codes " !text") else []
+
 -- what stands before each line of a stream
 abbrev pub mark_word : Mark → List ℕ
 mark_word Plain = []
@@ -91,7 +97,11 @@ mark_word (ServerOf number) = decimal number ++ codes " < "
 
 -- the stream of this end, shown alone, with its payloads in this style
 abbrev pub alone : Role → DataStyle → Source
-alone from style = record { from = from; mark = Plain; style = style }
+alone from style = record { from = from; mark = Plain; style = style; fault = None }
+
+-- the same stream, with the violation in the payload of the frame at this place
+abbrev pub marked_at : Source → ℕ → Source
+marked_at source place = record source { fault = Some place }
 
 -- the first bytes of each payload as digits
 abbrev pub plain : Role → Source
@@ -106,7 +116,8 @@ line_with source offset header word = concat (
     ∷ codes " fin=" ∷ bit_word header.fin ∷ codes " rsv=" ∷ decimal header.rsv
     ∷ codes " key=" ∷ key_word header.key ∷ codes " len=" ∷ decimal header.len
     ∷ codes " " ∷ form_word header.form ∷ codes " " ∷ word
-    ∷ mask_mark source.from header.key ∷ form_mark header.form header.len ∷ codes "\n" ∷ [])
+    ∷ mask_mark source.from header.key ∷ form_mark header.form header.len
+    ∷ fault_mark source.fault offset header.opcode ∷ codes "\n" ∷ [])
 
 -- the line of a frame: its payload is shown unmasked
 abbrev pub line_of : Source → ℕ → WireFrame → List ℕ

@@ -57,7 +57,7 @@ fn put_line(line: &FrameLine<'_>, room: &mut Room, lines: &mut Vec<u8>) -> Resul
     lines.extend_from_slice(room.as_slice())?;
     put_payload(line.source.style, line.header.opcode(), line.payload, lines)?;
     room.clear();
-    push_end(room, line.source.from, &line.header);
+    push_end(room, line.source, line.offset, &line.header);
     lines.extend_from_slice(room.as_slice())?;
     Ok(())
 }

@@ -1,13 +1,13 @@
 //! The lines of a stream that comes piece by piece, with payloads in any style (RFC 6455 section 5.2).
 
 ghost use Rattle.std.specs.Prelude.{◌≡◌, [], IsErrOf, false, length, true};
-ghost use Rattle.ws_frame.specs.Lines.{takes_memory};
+ghost use Rattle.ws_frame.specs.Lines.{marked_at, takes_memory};
 ghost use Rattle.ws_frame.specs.declared.show_fault.ShowFault.TheVariants.{NoMemory};
 ghost use Rattle.ws_frame.specs.Watching.{has_failed};
 ghost use Rattle.ws_frame.specs.Devices.{watched};
 ghost use Rattle.ws_frame.specs.PayloadStreaming.{HasRoomToPut, stream_source};
 ghost use Rattle.ws_frame.specs.FrameStreaming.{CanEndFrames, EndsFrames, HasRoomForFrames, HasTakenFrames, TakesMore};
-ghost use Rattle.ws_frame.specs.FrameStreaming.{WritesMore, frames_source, keeps_frames};
+ghost use Rattle.ws_frame.specs.FrameStreaming.{MarksAhead, WritesMore, frames_source, keeps_frames};
 
 use crate::payload_lines::PayloadLines;
 use crate::show_fault::ShowFault;
@@ -37,6 +37,19 @@ impl FrameLines {
         match source.style {
             DataStyle::Hex => FrameLines::Digits(StreamLines::new(source)),
             DataStyle::Text | DataStyle::All => FrameLines::Whole(PayloadLines::new(alloc, source)),
+        }
+    }
+
+    /// The payload of the frame at this place, whose line isn't written yet, is the stream's first violation: that line
+    /// is to be marked.
+    pub fn mark(&mut self, place: u64)
+        ensures source { frames_source self.new ≡ marked_at (frames_source self.old) place }
+        ensures marked { MarksAhead self.old self.new place }
+        ensures kept { keeps_frames self.new ≡ keeps_frames self.old }
+    {
+        match self {
+            FrameLines::Digits(lines) => lines.mark(place),
+            FrameLines::Whole(lines) => lines.mark(place),
         }
     }
 

@@ -1,9 +1,8 @@
 //! The line that tells of one frame (RFC 6455 section 5.2).
 
-ghost use Rattle.std.specs.Prelude.{◌≡◌, ◌<◌, ◌≤◌, ◌+◌, ◌++◌, length};
+ghost use Rattle.std.specs.Prelude.{◌≡◌, ◌<◌, ◌≤◌, ◌+◌, ◌++◌, length, Some};
 ghost use Rattle.ws_formats.specs.Words.{opcode_word};
-ghost use Rattle.ws_frame.specs.Lines.{key_word, data_word};
-ghost use Rattle.ws_frame.specs.Lines.{line_with};
+ghost use Rattle.ws_frame.specs.Lines.{data_word, fault_mark, key_word, line_with};
 ghost use Rattle.ws_frame.specs.InnerPrinting.{bits_words, end_words, front_words, layout_words, place_words};
 
 use crate::first_bytes::{FirstBytes, SHOWN};
@@ -19,6 +18,9 @@ const FIN: usize = 5;
 
 /// Where the reserved bits do.
 const RSV: usize = 11;
+
+/// The opcode of a close frame (section 5.5.1).
+const CLOSE: u8 = 8;
 
 /// How many bytes an opcode has in the table of their names.
 const KIND: usize = 8;
@@ -51,7 +53,7 @@ pub(crate) fn push_line(
     push_place::<BY_FIRST_BYTES>(room, offset, header);
     push_layout::<BY_FIRST_BYTES>(room, header);
     push_data(room, header.payload_len(), first);
-    push_marks::<BY_FIRST_BYTES>(room, source.from, header);
+    push_marks::<BY_FIRST_BYTES>(room, source, offset, header);
 }
 
 /// Puts what stands before a payload that is put elsewhere: the mark, where the frame begins, and its header.
@@ -66,19 +68,19 @@ pub(crate) fn push_front(room: &mut Room, mark: Mark, offset: u64, header: &Head
 }
 
 /// Puts what stands behind it: the remarks, and the end of the line.
-pub(crate) fn push_end(room: &mut Room, from: Role, header: &Header)
-    requires { length room.old + 13 ≤ 65536 }
-    ensures pushed { room.new ≡ room.old ++ end_words from header.now }
-    ensures len { length room.new ≤ length room.old + 13 }
+pub(crate) fn push_end(room: &mut Room, source: Source, offset: u64, header: &Header)
+    requires { length room.old + 20 ≤ 65536 }
+    ensures pushed { room.new ≡ room.old ++ end_words source offset header.now }
+    ensures len { length room.new ≤ length room.old + 20 }
 {
-    push_marks::<BY_WHOLE>(room, from, header);
+    push_marks::<BY_WHOLE>(room, source, offset, header);
 }
 
 /// Puts where a frame begins, and what its first byte says.
 fn push_place<const WAY: usize>(room: &mut Room, offset: u64, header: &Header)
-    requires { length room.old + 80 ≤ 65536 }
+    requires { length room.old + 60 ≤ 65536 }
     ensures pushed { room.new ≡ room.old ++ place_words offset header.now }
-    ensures len { length room.new ≤ length room.old + 80 }
+    ensures len { length room.new ≤ length room.old + 60 }
 {
     room.push_large(offset);
     room.push(b" ");
@@ -163,19 +165,39 @@ fn push_data(room: &mut Room, len: u64, first: &FirstBytes)
     }
 }
 
-/// Puts what the line adds where the frame is masked and should not be, or the other way round, and where the header's
-/// form is longer than needed, and ends it.
-fn push_marks<const WAY: usize>(room: &mut Room, from: Role, header: &Header)
-    requires { length room.old + 13 ≤ 65536 }
-    ensures pushed { room.new ≡ room.old ++ end_words from header.now }
-    ensures len { length room.new ≤ length room.old + 13 }
+/// Puts what the line adds where the frame is masked and should not be, or the other way round, where the header's form
+/// is longer than needed, and where the payload is the stream's first violation, and ends it.
+fn push_marks<const WAY: usize>(room: &mut Room, source: Source, offset: u64, header: &Header)
+    requires { length room.old + 20 ≤ 65536 }
+    ensures pushed { room.new ≡ room.old ++ end_words source offset header.now }
+    ensures len { length room.new ≤ length room.old + 20 }
 {
-    match (from, header.key()) {
+    match (source.from, header.key()) {
         (Role::Client, None) | (Role::Server, Some(_)) => room.push(b" !mask"),
         (Role::Client, Some(_)) | (Role::Server, None) => {}
     }
     if header.is_longer_than_needed() {
         room.push(b" !form");
     }
+    if let Some(place) = source.fault {
+        push_fault(room, place, offset, header.opcode());
+    }
     room.push(b"\n");
+}
+
+/// Puts the mark of the frame whose payload is at fault, if the frame with this opcode is the one at that place. It
+/// stands apart, so that a stream without a fault doesn't pay for it.
+#[inline(never)]
+fn push_fault(room: &mut Room, place: u64, offset: u64, opcode: u8)
+    requires { length room.old + 7 ≤ 65536 }
+    ensures pushed { room.new ≡ room.old ++ fault_mark (Some place) offset opcode }
+    ensures len { length room.new ≤ length room.old + 7 }
+{
+    if place != offset {
+        return;
+    }
+    match opcode {
+        CLOSE => room.push(b" !close"),
+        _ => room.push(b" !text"),
+    }
 }

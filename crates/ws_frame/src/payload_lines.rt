@@ -2,7 +2,7 @@
 
 ghost use Rattle.std.specs.Prelude.{◌≡◌, ◌≤◌, ◌<◌, ◌+◌, ◌^◌, ◌++◌, [], IfOk, OnOk, drop, false, length, true};
 ghost use Rattle.ws_frame.specs.declared.showing.StreamEnd.TheVariants.{BadLengthAt};
-ghost use Rattle.ws_frame.specs.Lines.{last_line};
+ghost use Rattle.ws_frame.specs.Lines.{last_line, marked_at};
 ghost use Rattle.ws_frame.specs.PayloadStreaming.{EndsPut, HasPutLines, HasRoomToPut, IsGoing, PutsMore};
 ghost use Rattle.ws_frame.specs.PayloadStreaming.{stream_end, stream_source};
 ghost use Rattle.ws_frame.specs.InnerPayloads.{PutsFrames, StandsAtFront};
@@ -63,6 +63,13 @@ impl PayloadLines {
         let done = self.put_frames(alloc, lines)?;
         drop_front(&mut self.rest, done);
         Ok(())
+    }
+
+    /// The payload of the frame at this place is the stream's first violation: its line is to be marked.
+    pub(crate) fn mark(&mut self, place: u64)
+        ensures marked { self.new ≡ record self.old { source = marked_at self.old.source place } }
+    {
+        self.source.fault = Some(place);
     }
 
     /// How the stream ends where nothing more comes.

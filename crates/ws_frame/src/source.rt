@@ -68,13 +68,15 @@ pub enum DataStyle {
     All,
 }
 
-/// Whose stream is shown: the end that sent it, for the remarks on masking, what stands before each of its lines, and
-/// how these show payloads.
+/// Whose stream is shown: the end that sent it, for the remarks on masking, what stands before each of its lines, how
+/// these show payloads, and which of them tells that the payload breaks a rule.
 #[derive(Clone, Copy)]
 pub struct Source {
     pub from: Role,
     pub mark: Mark,
     pub style: DataStyle,
+    /// Where the frame begins whose text or close payload is the first violation, if it is known.
+    pub fault: Option<u64>,
 }
 
 impl Source {
@@ -93,6 +95,7 @@ impl Source {
             from,
             mark: Mark::Plain,
             style,
+            fault: None,
         }
     }
 }

@@ -3,7 +3,7 @@
 ghost use Rattle.std.specs.Prelude.{◌≡◌, [], length, false, true, OnOk};
 ghost use Rattle.ws_frame.specs.Watching.{has_failed};
 ghost use Rattle.ws_frame.specs.Devices.{watched};
-ghost use Rattle.ws_frame.specs.Lines.{last_line};
+ghost use Rattle.ws_frame.specs.Lines.{last_line, marked_at};
 ghost use Rattle.ws_frame.specs.declared.source.DataStyle.TheVariants.{Hex};
 ghost use Rattle.ws_frame.specs.Streaming.{HasShown, HasRoomFor, CanEnd, ShowsMore, ShowsEnd, WritesAll, source_of};
 ghost use Rattle.ws_frame.specs.Streaming.{ShowsByte, EndsWithLine};
@@ -34,6 +34,15 @@ impl StreamLines {
             run: Run::new(source),
             stopped: false,
         }
+    }
+
+    /// The payload of the frame at this place is the stream's first violation: its line is to be marked.
+    pub(crate) fn mark(&mut self, place: u64)
+        ensures marked { self.new ≡ record self.old {
+          run = record self.old.run { source = marked_at self.old.run.source place };
+        } }
+    {
+        self.run.source.fault = Some(place);
     }
 
     /// More bytes come: the lines of the frames that they complete are written, and that of a bad length, behind which

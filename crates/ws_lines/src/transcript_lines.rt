@@ -44,11 +44,13 @@ impl TranscriptLines {
             from: tester_of(showing.tested),
             mark: Mark::Sent,
             style: showing.style,
+            fault: None,
         };
         let got = Source {
             from: showing.tested,
             mark: Mark::Got,
             style: showing.style,
+            fault: None,
         };
         TranscriptLines {
             turns: 0,

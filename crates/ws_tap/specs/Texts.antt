@@ -1,7 +1,7 @@
 -- The lines that a tap tells of one direction: the first line of its head, and those of `show` for what stands behind
 -- it (RFC 6455 section 5.2).
 use Rattle.std.specs.Prelude.{◌≡◌, ◌⊎◌, ℕ, ◌<◌, ◌≤◌, ◌==◌, ◌||◌, Bool, true, false, not, List, [], ◌++◌, length, drop}
-use Rattle.std.specs.Prelude.{take, Some, codes, map, nat_le, ◌&&◌, if◌then◌else◌}
+use Rattle.std.specs.Prelude.{take, None, Some, codes, map, nat_le, ◌&&◌, if◌then◌else◌}
 use Rattle.std.specs.List.{position_or_len}
 use Rattle.ws_wire.specs.declared.role.Role.TheVariants.{Client, Server}
 use Rattle.ws_frame.specs.declared.source.Source.{Source}
@@ -35,8 +35,10 @@ side_mark Response = codes " < "
 
 -- the end that sends such a head, in the connection that is tapped, as the lines of its frames have it
 abbrev pub source_at : HeadKind → Tapped → Source
-source_at Request tapped = record { from = Client; mark = ClientOf tapped.number; style = tapped.style }
-source_at Response tapped = record { from = Server; mark = ServerOf tapped.number; style = tapped.style }
+source_at Request tapped =
+    record { from = Client; mark = ClientOf tapped.number; style = tapped.style; fault = None }
+source_at Response tapped =
+    record { from = Server; mark = ServerOf tapped.number; style = tapped.style; fault = None }
 
 -- a byte of it as it is shown: one outside 0x20 to 0x7e is a question mark, since a terminal may obey it
 abbrev pub shown_byte : ℕ → ℕ

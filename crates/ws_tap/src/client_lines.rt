@@ -84,6 +84,7 @@ impl ClientLines {
                     from: Role::Client,
                     mark: Mark::ClientOf(self.tapped.number),
                     style: self.tapped.style,
+                    fault: None,
                 };
                 self.stage = ClientStage::Frames(FrameLines::new(alloc, source));
                 write_whole(writer, found.line.as_slice())?;

@@ -124,6 +124,7 @@ fn go_behind(alloc: Global, tapped: Tapped, status: Option<u16>, stage: &mut Ser
                 from: Role::Server,
                 mark: Mark::ServerOf(tapped.number),
                 style: tapped.style,
+                fault: None,
             };
             *stage = ServerStage::Frames(FrameLines::new(alloc, source));
         }

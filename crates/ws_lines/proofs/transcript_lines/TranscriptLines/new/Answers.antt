@@ -1,5 +1,5 @@
 -- A new list of lines has told no turn, for either role of the tested end.
-use Rattle.std.proofs.Common.{◌∙◌, ap}
+use Rattle.std.proofs.Common.{◌∙◌, None, ap}
 use Rattle.ws_wire.specs.declared.role.Role.{Role}
 use Rattle.ws_frame.specs.declared.source.DataStyle.{DataStyle}
 use Rattle.ws_frame.specs.declared.source.Source.{Source}
@@ -8,7 +8,7 @@ use Rattle.ws_lines.proofs.Tellings.{nothing_told}
 use Rattle.ws_lines.proofs.transcript_lines.TranscriptLines.new.Goals as goal
 
 abbrev sent_by : DataStyle → Role → Source
-sent_by style from = record { from = from; mark = Sent; style = style }
+sent_by style from = record { from = from; mark = Sent; style = style; fault = None }
 
 pub returns : goal.returns
 returns c =
