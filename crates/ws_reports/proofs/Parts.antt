@@ -13,7 +13,8 @@ use Rattle.std.proofs.lemmas.Str.{IsUtf8-from_ascii}
 use Rattle.ws_base.specs.declared.text_fault.LineFault.{LineFault}
 use Rattle.ws_base.specs.declared.text_fault.LineFault.TheVariants.{Damaged}
 use Rattle.ws_formats.specs.Reading.{Reads}
-use Rattle.ws_reports.specs.Cutting.{AreParts, BeginsRemark, CountsPasses, CutsRemark, IsCaseRead, IsCutAtFirst, TellsNoCase}
+use Rattle.ws_reports.specs.Cutting.{AreParts, BeginsRemark, CountsPasses, CutsRemark, IsCaseRead, IsCutAtFirst, IsNoDigit}
+use Rattle.ws_reports.specs.Cutting.{TellsNoCase}
 use Rattle.ws_reports.specs.KnownLines.{HasCount, HasInBrackets, IsBesideCases, IsCaseLine, IsCount, IsKnownLine, IsRemark}
 use Rattle.ws_reports.specs.declared.known_line.KnownLine.{KnownLine}
 use Rattle.ws_reports.specs.declared.known_line.KnownLine.TheVariants.{Other, Verdict}
@@ -21,17 +22,26 @@ use Rattle.ws_reports.specs.Verdicts.{HasName, HasRule, IsHeadFail, IsNamedLoose
 use Rattle.ws_reports.specs.Verdicts.{NamesFail, NamesLoose, NamesRefusal}
 use Rattle.ws_reports.proofs.Cuts.{no_cut, one_cut, same_front, same_rest}
 
--- ---- verdicts have no brackets, and are ASCII
+-- ---- verdicts have no brackets, colons and digits, and are ASCII
 
 abbrev IsSafe : ℕ → Type 0
-IsSafe byte = (byte ≢ 40) × (byte < 128)
+IsSafe byte = (byte ≢ 40) × (byte < 128) × (byte ≢ 58) × IsNoDigit byte
+
+-- a letter stands behind the digits
+no_digit : (byte : ℕ) → 65 ≤ byte → IsNoDigit byte
+no_digit byte high = grind (arith, nat_tests)
 
 letter_bounds : (byte : ℕ) → IsTrue (is_ascii_alphabetic byte) → (65 ≤ byte) × (byte ≤ 122)
 letter_bounds byte h = grind (arith, nat_tests)
 
 letter_safe : (byte : ℕ) → IsTrue (is_ascii_alphabetic byte) → IsSafe byte
 letter_safe byte h =
-    let bounds = letter_bounds byte h in (λ is. omega (arith, is, bounds.0), omega (arith, bounds.1))
+    let bounds = letter_bounds byte h in (
+      λ is. omega (arith, is, bounds.0),
+      omega (arith, bounds.1),
+      λ is. omega (arith, is, bounds.0),
+      no_digit byte bounds.0,
+    )
 
 named_safe : (front words : List ℕ) → All IsSafe front → HasName front words → All IsSafe words
 named_safe front words safe (name, is, e) =
@@ -45,11 +55,11 @@ letters_safe word h = All-weaker (λ byte. IsTrue (is_ascii_alphabetic byte)) Is
 ruled_safe : (front words : List ℕ) → All IsSafe front → HasRule front words → All IsSafe words
 ruled_safe front words safe (name, is, e) = named_safe front words safe (name, is.0, e)
 
-letter : (byte : ℕ) → 41 ≤ byte → byte < 128 → IsSafe byte
-letter byte low high = (λ is. omega (arith, is, low), high)
+letter : (byte : ℕ) → 65 ≤ byte → byte < 128 → IsSafe byte
+letter byte low high = (λ is. omega (arith, is, low), high, λ is. omega (arith, is, low), no_digit byte low)
 
 a_space : IsSafe 32
-a_space = (λ is. omega (arith, is), omega arith)
+a_space = (λ is. omega (arith, is), omega arith, λ is. omega (arith, is), refl)
 
 pass_safe : All IsSafe (codes "PASS")
 pass_safe = All-from_recursion IsSafe (codes "PASS")
@@ -146,6 +156,12 @@ verdict_plain words h = All-weaker IsSafe (λ byte. byte ≢ 40) (λ byte safe. 
 pub verdict_ascii : (words : List ℕ) → IsVerdict words → IsAscii words
 verdict_ascii words h = IsAscii-from_all words (All-weaker IsSafe (λ byte. byte < 128) (λ byte safe. safe.1) words (verdict_safe words h))
 
+pub verdict_no_colon : (words : List ℕ) → IsVerdict words → All (λ byte. byte ≢ 58) words
+verdict_no_colon words h = All-weaker IsSafe (λ byte. byte ≢ 58) (λ byte safe. safe.2) words (verdict_safe words h)
+
+pub verdict_no_digit : (words : List ℕ) → IsVerdict words → All IsNoDigit words
+verdict_no_digit words h = All-weaker IsSafe IsNoDigit (λ byte safe. safe.3) words (verdict_safe words h)
+
 -- ---- the line of a case
 
 remark_begins : (remark : List ℕ) → IsRemark remark → BeginsRemark remark
@@ -179,12 +195,12 @@ tells_none line id rest words remark cut parts none id' words' told =
 
 -- ---- counts
 
-digit_bounds : (byte : ℕ) → IsTrue (is_ascii_digit byte) → 48 ≤ byte
+pub digit_bounds : (byte : ℕ) → IsTrue (is_ascii_digit byte) → (48 ≤ byte) × (byte ≤ 57)
 digit_bounds byte h = grind (arith, nat_tests)
 
 count_plain : (word : List ℕ) → IsCount word → All (λ byte. byte ≢ 32) word
 count_plain word is = All-weaker (λ byte. IsTrue (is_ascii_digit byte)) (λ byte. byte ≢ 32)
-    (λ byte digit is. omega (arith, digit_bounds byte digit, is)) word is.1
+    (λ byte digit is. omega (arith, (digit_bounds byte digit).0, is)) word is.1
 
 -- a line is cut behind its count
 pub count_parts : (line count rest word back : List ℕ) → IsCutAtFirst 32 line count rest → HasCount word back line

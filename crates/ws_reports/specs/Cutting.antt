@@ -1,7 +1,8 @@
 -- Inside the crate: where bytes are cut. A reader may skip it.
-use Rattle.std.specs.Prelude.{◌≡◌, ◌≢◌, ◌⊎◌, ℕ, ◌≤◌, length, All, List, [], ◌∷◌, ◌++◌, Option, MatchOption, codes}
-use Rattle.std.specs.Prelude.{string_bytes}
+use Rattle.std.specs.Prelude.{◌≡◌, ◌≢◌, ◌⊎◌, ℕ, ◌≤◌, false, IsTrue, length, All, List, [], ◌∷◌, ◌++◌, Option}
+use Rattle.std.specs.Prelude.{MatchOption, codes, string_bytes}
 use Rattle.std.specs.Borrow.{Bor}
+use Rattle.std.specs.Char.{is_ascii_digit}
 use Rattle.ws_reports.specs.KnownLines.{HasCount, IsCaseLine, IsRemark}
 use Rattle.ws_reports.specs.Verdicts.{IsVerdict}
 use Rattle.ws_reports.specs.declared.known_line.KnownLine.{KnownLine}
@@ -15,6 +16,24 @@ IsCutAtFirst mark bytes front back = (bytes ≡ front ++ mark ∷ back) × All (
 abbrev pub CutsAtFirst : ℕ → List ℕ → Option (Bor (List ℕ) × Bor (List ℕ)) → Type 0
 CutsAtFirst mark bytes result =
     MatchOption result (All (λ byte. byte ≢ mark) bytes) (λ parts. IsCutAtFirst mark bytes parts.0.now parts.1.now)
+
+-- no digit
+abbrev pub IsNoDigit : ℕ → Type 0
+IsNoDigit byte = is_ascii_digit byte ≡ false
+
+-- the bytes are front, the first digit, and back
+abbrev pub IsCutAtDigit : List ℕ → List ℕ → ℕ → List ℕ → Type 0
+IsCutAtDigit bytes front digit back =
+    (bytes ≡ front ++ digit ∷ back) × All IsNoDigit front × IsTrue (is_ascii_digit digit)
+
+-- the bytes cut so, or none of them is a digit
+abbrev pub CutsAtDigit : List ℕ → Option (Bor (List ℕ) × ℕ × Bor (List ℕ)) → Type 0
+CutsAtDigit bytes result =
+    MatchOption result (All IsNoDigit bytes) (λ parts. IsCutAtDigit bytes parts.0.now parts.1 parts.2.now)
+
+-- digits, or nothing
+abbrev pub AreFurtherDigits : List ℕ → Type 0
+AreFurtherDigits rest = All (λ byte. IsTrue (is_ascii_digit byte)) rest
 
 -- nothing, or a space and an opening bracket and more
 abbrev pub BeginsRemark : List ℕ → Type 0

@@ -1,5 +1,5 @@
 -- The parts of a JUnit document.
-use Rattle.std.specs.Prelude.{ℕ, List, [], ◌∷◌, codes}
+use Rattle.std.specs.Prelude.{ℕ, ◌==◌, List, [], ◌∷◌, codes, if◌then◌else◌}
 use Rattle.std.specs.List.{concat}
 use Rattle.ws_reports.specs.Escaping.{escaped, quoted}
 
@@ -16,11 +16,21 @@ full_name id title = concat (id ∷ codes " " ∷ title ∷ [])
 abbrev pub passed_case : List ℕ → List ℕ
 passed_case name = concat (codes "<testcase classname=\"wst\" name=\"" ∷ quoted name ∷ codes "\"/>\n" ∷ [])
 
--- a case that failed, with these words and lines
-abbrev pub failed_case : List ℕ → List ℕ → List ℕ → List ℕ
-failed_case name words below = concat (codes "<testcase classname=\"wst\" name=\"" ∷ quoted name
-    ∷ codes "\"><failure message=\"" ∷ quoted words ∷ codes "\">\n" ∷ escaped below
-    ∷ codes "</failure></testcase>\n" ∷ [])
+-- a text up to its first space
+abbrev pub front_word : List ℕ → List ℕ
+front_word [] = []
+front_word (byte ∷ bytes) = if byte == 32 then [] else byte ∷ front_word bytes
+
+-- a text up to its second space
+abbrev pub first_two_words : List ℕ → List ℕ
+first_two_words [] = []
+first_two_words (byte ∷ bytes) = if byte == 32 then byte ∷ front_word bytes else byte ∷ first_two_words bytes
+
+-- a case that failed by this verdict, with these words and lines
+abbrev pub failed_case : List ℕ → List ℕ → List ℕ → List ℕ → List ℕ
+failed_case name verdict words below = concat (codes "<testcase classname=\"wst\" name=\"" ∷ quoted name
+    ∷ codes "\"><failure type=\"" ∷ quoted (first_two_words verdict) ∷ codes "\" message=\"" ∷ quoted words
+    ∷ codes "\">\n" ∷ escaped below ∷ codes "</failure></testcase>\n" ∷ [])
 
 -- a case that failed as it is known to, with these words
 abbrev pub skipped_case : List ℕ → List ℕ → List ℕ

@@ -3,8 +3,10 @@ pub mod KnownLines
 pub mod Known
 pub mod Told
 pub mod Remarks
+pub mod KnownCounts
 pub mod Escaping
 pub mod Junit
 pub mod Reports
+pub mod Kept
 pub mod Examples
 pub mod Cutting

@@ -9,9 +9,11 @@ use Rattle.ws_reports.specs.Told.{ToldValue}
 use Rattle.ws_reports.specs.Verdicts.{tells_fail}
 use Rattle.ws_reports.specs.declared.known_line.KnownLine.{KnownLine}
 
--- whether a run is told as a JUnit document, and the lines of the earlier run that is known, if one is
+-- whether a run is told as a JUnit document, whether a summary stands behind its cases, and the lines of the earlier
+-- run that is known, if one is
 pub record ReportValue : Type 0 where
   pub is_junit : Bool
+  pub has_summary : Bool
   pub known : Option (List KnownLine)
 
 -- what stands behind the name of a case: the words of its verdict, and what is otherwise
@@ -26,7 +28,7 @@ told_text report told = concat (told.id ∷ codes " " ∷ told_words report told
 -- passed, and for another Fail, which is the known one, that it is skipped
 abbrev pub element_by : Bool → ToldValue → List ℕ → List ℕ → List ℕ
 element_by is_failed told name words =
-    if is_failed then failed_case name words told.below
+    if is_failed then failed_case name told.verdict words told.below
     else (if bytes_eq told.verdict (codes "PASS") then passed_case name
     else (if tells_fail told.verdict then skipped_case name words
     else noted_case name (noted_text words told.below)))

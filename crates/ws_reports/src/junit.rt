@@ -1,8 +1,10 @@
 //! The parts of a JUnit document.
 
 ghost use Rattle.std.specs.Prelude.{◌≡◌, IfOk, string_bytes};
-ghost use Rattle.ws_reports.specs.Junit.{failed_case, junit_start, noted_case, passed_case, skipped_case};
+ghost use Rattle.ws_reports.specs.Junit.{failed_case, first_two_words, junit_start, noted_case, passed_case};
+ghost use Rattle.ws_reports.specs.Junit.{skipped_case};
 
+use crate::cutting::cut_at;
 use crate::escaping::{Escaped, Quoted};
 use std::alloc::Global;
 use ws_base::NoMemory;
@@ -28,21 +30,37 @@ pub(crate) fn passed_case(alloc: Global, name: &str) -> Result<String, NoMemory>
     Ok(format!(in alloc; "<testcase classname=\"wst\" name=\"{name}\"/>\n")?)
 }
 
-/// The element of a case that failed, with these words and lines.
+/// The element of a case that failed by this verdict, with these words and lines.
 pub(crate) fn failed_case(
     alloc: Global,
     name: &str,
+    verdict: &str,
     words: &str,
     below: &str,
 ) -> Result<String, NoMemory>
-    ensures { IfOk result (λ text. string_bytes text ≡ failed_case name.now words.now below.now) }
+    ensures { IfOk result (λ text. string_bytes text ≡ failed_case name.now verdict.now words.now below.now) }
 {
     let name = Quoted(name.as_bytes());
+    let kind = Quoted(first_two_words(verdict.as_bytes()));
     let words = Quoted(words.as_bytes());
     let below = Escaped(below.as_bytes());
     Ok(format!(in alloc;
-        "<testcase classname=\"wst\" name=\"{name}\"><failure message=\"{words}\">\n{below}</failure></testcase>\n"
+        "<testcase classname=\"wst\" name=\"{name}\"><failure type=\"{kind}\" message=\"{words}\">\n\
+        {below}</failure></testcase>\n"
     )?)
+}
+
+/// A text up to its second space.
+pub fn first_two_words(text: &[u8]) -> &[u8]
+    ensures { result.now ≡ first_two_words text.now }
+{
+    let Some((first, rest)) = cut_at(text, b' ') else {
+        return text;
+    };
+    match cut_at(rest, b' ') {
+        Some((second, _)) => &text[..first.len() + 1 + second.len()],
+        None => text,
+    }
 }
 
 /// The element of a case that failed as it is known to, with these words.

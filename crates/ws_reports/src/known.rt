@@ -26,8 +26,8 @@ impl Model for KnownVerdicts {
 }
 
 /// The verdicts that the lines of an earlier run tell. The line of a case is its name, a space and its verdict, with
-/// ` (was VERDICT)` or ` (new)` behind it or not. Totals, `listening on ..` and lines that begin with a space are
-/// passed by.
+/// ` (was VERDICT)` or ` (new)` behind it or not. Totals and the lines behind them, `listening on ..` and lines that
+/// begin with a space are passed by.
 pub fn read_known(alloc: Global, text: &[u8]) -> Result<KnownVerdicts, TextFault>
     ensures { MatchResult result (λ known. AreKnownLines known text.now)
         (λ fault. Damages AreKnownLines fault text.now) }

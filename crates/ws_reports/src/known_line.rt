@@ -7,6 +7,7 @@ ghost use Rattle.ws_reports.specs.KnownLines.{StandsFirst, HasCount, HasInBracke
 ghost use Rattle.ws_reports.specs.KnownLines.{IsCount, IsKnownLine, IsRemark, IsTotal, IsWas};
 ghost use Rattle.ws_reports.specs.Verdicts.{IsVerdict};
 
+use crate::behind_total::is_behind_total;
 use crate::cutting::{behind, cut_at, front_of};
 use crate::verdict_words::is_verdict;
 use std::alloc::{AllocError, Global};
@@ -33,22 +34,25 @@ impl Line for KnownLine {
     }
 }
 
-/// Whether a line begins with a space, tells where clients are waited for, or is a total.
-fn is_beside_cases(line: &[u8]) -> bool
+/// Whether a line begins with a space, tells where clients are waited for, is a total, or stands behind one.
+pub fn is_beside_cases(line: &[u8]) -> bool
     ensures { IsTrue result ↔ IsBesideCases line.now }
 {
-    is_total(line) || begins_with(line, b" ") || begins_with(line, b"listening on ")
+    is_total(line)
+        || begins_with(line, b" ")
+        || begins_with(line, b"listening on ")
+        || is_behind_total(line)
 }
 
 /// Whether bytes begin with these.
-fn begins_with(bytes: &[u8], front: &[u8]) -> bool
+pub(crate) fn begins_with(bytes: &[u8], front: &[u8]) -> bool
     ensures { IsTrue result ↔ StandsFirst front.now bytes.now }
 {
     behind(bytes, front).is_some()
 }
 
 /// Whether a line is a total of verdicts.
-fn is_total(line: &[u8]) -> bool
+pub fn is_total(line: &[u8]) -> bool
     ensures { IsTrue result ↔ IsTotal line.now }
 {
     match behind_passes(line) {
@@ -69,7 +73,7 @@ fn behind_passes(line: &[u8]) -> Option<&[u8]>
 }
 
 /// Whether a line is a count of these, and nothing else.
-fn is_count_of(line: &[u8], word: &[u8]) -> bool
+pub(crate) fn is_count_of(line: &[u8], word: &[u8]) -> bool
     ensures { IsTrue result ↔ HasCount word.now [] line.now }
 {
     match behind_count(line, word) {
@@ -79,7 +83,7 @@ fn is_count_of(line: &[u8], word: &[u8]) -> bool
 }
 
 /// What stands behind a count of these.
-fn behind_count<'a>(line: &'a [u8], word: &[u8]) -> Option<&'a [u8]>
+pub(crate) fn behind_count<'a>(line: &'a [u8], word: &[u8]) -> Option<&'a [u8]>
     ensures { MatchOption result ((rest : List ℕ) → HasCount word.now rest line.now → ⊥)
         (λ rest. HasCount word.now rest.now line.now) }
 {
@@ -104,7 +108,7 @@ fn is_count(word: &[u8]) -> bool
 fn read_case_line(alloc: Global, line: &[u8]) -> Result<KnownLine, LineFault>
     ensures { Reads result (λ found. IsCaseRead line.now found) }
 {
-    let Some((id, words)) = parts_of(line) else {
+    let Some((id, words)) = case_parts(line) else {
         return Err(LineFault::Damaged);
     };
     let words = copied_words(alloc, words)?;
@@ -113,7 +117,7 @@ fn read_case_line(alloc: Global, line: &[u8]) -> Result<KnownLine, LineFault>
 }
 
 /// The name of the case and the words of its verdict, of the line of a case.
-fn parts_of(line: &[u8]) -> Option<(&[u8], &[u8])>
+pub fn case_parts(line: &[u8]) -> Option<(&[u8], &[u8])>
     ensures { MatchOption result (TellsNoCase line.now) (λ parts. IsCaseLine parts.0.now parts.1.now line.now) }
 {
     let Some((id, rest)) = cut_at(line, b' ') else {

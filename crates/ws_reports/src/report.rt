@@ -2,23 +2,30 @@
 
 ghost use Rattle.std.specs.Prelude.{◌≡◌, IfOk, false, true, string_bytes, if◌then◌else◌};
 ghost use Rattle.ws_reports.specs.Junit.{noted_case, noted_text};
+ghost use Rattle.ws_reports.specs.Kept.{verdict_kept};
+ghost use Rattle.ws_reports.specs.KnownCounts.{change_on, known_line};
 ghost use Rattle.ws_reports.specs.Remarks.{remark_on, remark_words, told_failed};
 ghost use Rattle.ws_reports.specs.Reports.{case_element, case_text, element_by, end_text, start_text, told_words};
 ghost use Rattle.ws_reports.specs.Told.{texts_of};
 
+use crate::case_score::CaseScore;
 use crate::junit::{END, failed_case, junit_start, noted_case, passed_case, skipped_case};
+use crate::kept::KeptVerdict;
 use crate::known::KnownVerdicts;
+use crate::known_counts::{Change, KnownCounts, change_by, change_since, counts_line};
 use crate::remark::Remark;
 use crate::told::Told;
 use crate::verdict_words::{is_same_verdict, tells_fail};
 use std::alloc::Global;
 use std::marker::Model;
-use ws_base::NoMemory;
+use ws_base::{NoMemory, Payload};
 
-/// How a run tells what comes of its cases: whether as a JUnit document, and beside which earlier run, if one is known.
+/// How a run tells what comes of its cases: whether as a JUnit document, whether a summary stands behind them, and
+/// beside which earlier run, if one is known.
 #[derive(Drop)]
 pub struct Report {
     is_junit: bool,
+    has_summary: bool,
     known: Option<KnownVerdicts>,
 }
 
@@ -27,16 +34,22 @@ impl Model for Report {
 
     ghost Value = { ReportValue };
 
-    ghost view = { λ report. record { is_junit = report.is_junit; known = report.known } };
+    ghost view = { λ report.
+        record { is_junit = report.is_junit; has_summary = report.has_summary; known = report.known } };
 }
 
 impl Report {
-    /// Lines, or a JUnit document, beside the earlier run that is known.
-    pub fn new(is_junit: bool, known: Option<KnownVerdicts>) -> Report
+    /// Lines, or a JUnit document, with a summary or without, beside the earlier run that is known.
+    pub fn new(is_junit: bool, has_summary: bool, known: Option<KnownVerdicts>) -> Report
         ensures junit { result.is_junit ≡ is_junit }
+        ensures summary { result.has_summary ≡ has_summary }
         ensures known { result.known ≡ known }
     {
-        Report { is_junit, known }
+        Report {
+            is_junit,
+            has_summary,
+            known,
+        }
     }
 
     /// Whether it is a JUnit document.
@@ -44,6 +57,13 @@ impl Report {
         ensures { result ≡ self.now.is_junit }
     {
         self.is_junit
+    }
+
+    /// Whether a summary stands behind the cases.
+    pub fn has_summary(&self) -> bool
+        ensures { result ≡ self.now.has_summary }
+    {
+        self.has_summary
     }
 
     /// What is written before any case runs.
@@ -112,6 +132,57 @@ impl Report {
         }
     }
 
+    /// How a case stands beside the earlier run, where one is known.
+    pub fn change(&self, told: Told<'_>) -> Option<Change>
+        ensures { result ≡ change_on self.now.known (texts_of told.entry) }
+    {
+        let Some(known) = &self.known else {
+            return None;
+        };
+        let change = match known.verdict_of(told.id) {
+            None => change_by(false, tells_fail(told.verdict.as_bytes())),
+            Some(words) => change_since(words, told.verdict),
+        };
+        Some(change)
+    }
+
+    /// The verdict of a case, where a summary is asked for.
+    fn verdict_kept(&self, alloc: Global, told: Told<'_>) -> Result<Option<KeptVerdict>, NoMemory>
+        ensures { IfOk result (λ verdict. verdict ≡ verdict_kept self.now (texts_of told.entry)) }
+    {
+        if !self.has_summary {
+            return Ok(None);
+        }
+        Ok(Some(KeptVerdict {
+            id: Payload::from_vec(told.id.as_bytes().to_vec(alloc)?),
+            words: Payload::from_vec(told.verdict.as_bytes().to_vec(alloc)?),
+        }))
+    }
+
+    /// What a case adds to what a run comes to.
+    pub fn case_score(&self, alloc: Global, told: Told<'_>) -> Result<CaseScore, NoMemory>
+        ensures failed { IfOk result (λ score. score.is_failed ≡ told_failed self.now.known (texts_of told.entry)) }
+        ensures change { IfOk result (λ score. score.change ≡ change_on self.now.known (texts_of told.entry)) }
+        ensures verdict { IfOk result (λ score. score.verdict ≡ verdict_kept self.now (texts_of told.entry)) }
+    {
+        let verdict = self.verdict_kept(alloc, told)?;
+        Ok(CaseScore {
+            is_failed: self.is_failed(told),
+            change: self.change(told),
+            verdict,
+        })
+    }
+
+    /// The line of these counts, where an earlier run is known.
+    pub fn known_line(&self, alloc: Global, counts: KnownCounts) -> Result<String, NoMemory>
+        ensures { IfOk result (λ line. string_bytes line ≡ known_line self.now.known counts) }
+    {
+        match self.known {
+            Some(_) => counts_line(alloc, counts),
+            None => Ok(String::new(alloc)),
+        }
+    }
+
     /// What is written last, in place of the total that is given where it is a JUnit document.
     pub fn end_text<'a>(&self, total: &'a str) -> &'a str
         ensures { result.now ≡ end_text self.now total.now }
@@ -131,7 +202,7 @@ fn element_by(
     ensures { IfOk result (λ text. string_bytes text ≡ element_by is_failed (texts_of told.entry) name.now words.now) }
 {
     if is_failed {
-        failed_case(alloc, name, words, told.below)
+        failed_case(alloc, name, told.verdict, words, told.below)
     } else if told.verdict == "PASS" {
         passed_case(alloc, name)
     } else if tells_fail(told.verdict.as_bytes()) {

@@ -1,2 +1,3 @@
 pub mod TitleTable
 pub mod Titles
+pub mod GroupTitles

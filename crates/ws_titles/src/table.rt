@@ -17,9 +17,9 @@ ghost use Rattle.std.specs.Prelude.{◌≡◌, ◌<◌, [], get_or, map};
 ghost use Rattle.ws_titles.specs.TitleTable.{title_parts};
 ghost use Rattle.ws_titles.specs.Titles.{title_pair};
 
-/// The name of a case, and its title.
+/// The name of a case or a group, and its title.
 #[derive(Clone, Copy)]
-pub(crate) struct Title(pub(crate) &'static str, pub(crate) &'static str);
+pub struct Title(pub &'static str, pub &'static str);
 
 /// How many parts the table has.
 pub(crate) const PARTS: usize = 12;

@@ -3,7 +3,7 @@ use Rattle.std.proofs.Common.{◌∙◌, ◌++◌, sym}
 use Rattle.std.proofs.lemmas.Bool.{false≢true}
 use Rattle.ws_reports.proofs.Cuts.{no_cut}
 use Rattle.ws_reports.proofs.Parts.{is_case, tells_none}
-use Rattle.ws_reports.proofs.known_line.parts_of.Goals as goal
+use Rattle.ws_reports.proofs.known_line.case_parts.Goals as goal
 
 pub returns-in_default : goal.returns-in_default
 returns-in_default c = λ id words (is, verdict, (remark, may, e)).

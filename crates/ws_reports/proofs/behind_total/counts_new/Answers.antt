@@ -1,0 +1,13 @@
+-- The first count is read, and then the others.
+use Rattle.std.proofs.Common.{codes}
+use Rattle.ws_reports.specs.KnownLines.{CountsFixed, CountsNew}
+use Rattle.ws_reports.proofs.BehindTotals.{count_then}
+use Rattle.ws_reports.proofs.Parts.{told_false}
+use Rattle.ws_reports.proofs.behind_total.counts_new.Goals as goal
+
+pub returns-in-Some : goal.returns-in-Some
+returns-in-Some c = count_then CountsFixed c.args.line.now (codes "new, ") c.in-Some.rest.now c.counts_fixed.result
+    c.in-Some.ensures c.counts_fixed.ensures
+
+pub returns-in-None : goal.returns-in-None
+returns-in-None c = told_false (CountsNew c.args.line.now) (λ (rest, has, others). c.in-None.ensures rest has)

@@ -1,0 +1,12 @@
+mod PlaceLemmas
+mod PutLemmas
+mod NoResult
+mod Walks
+mod Marked
+mod Sorting
+mod Following
+mod IdRuns
+mod CheckLemmas
+mod ReadLemmas
+mod PassedLines
+mod NoCharacters

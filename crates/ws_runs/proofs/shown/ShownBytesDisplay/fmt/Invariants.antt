@@ -1,0 +1,11 @@
+-- The bytes so far are written.
+use Rattle.std.proofs.Common.{take}
+use Rattle.std.specs.Fmt.{HasWritten, IsPlainFormatter}
+use Rattle.std.specs.List.{flat_map}
+use Rattle.ws_runs.specs.Shown.{byte_on_terminal}
+use Rattle.ws_runs.proofs.shown.ShownBytesDisplay.fmt.Given as goal
+
+abbrev pub invariant-loop-byte : goal.invariant-loop-byte
+invariant-loop-byte g l = IsPlainFormatter l.initial.f
+    → HasWritten g.W.Write.write_str_gives l.initial.f
+    (flat_map byte_on_terminal (take l.byte-index l.byte-items)) l.f

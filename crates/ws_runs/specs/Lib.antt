@@ -1,0 +1,11 @@
+pub mod RunLines
+pub mod Names
+pub mod NameLines
+pub mod Runs
+pub mod Marks
+pub mod Shown
+pub mod Json
+pub mod Summary
+pub mod Places
+pub mod Checking
+pub mod Views
