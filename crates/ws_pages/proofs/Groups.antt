@@ -3,7 +3,7 @@ use Rattle.std.proofs.Common.{◌≡◌, ◌∙◌, ℕ, ◌+◌, ◌<◌, ◌==
 use Rattle.std.proofs.Common.{get_or, ap, sym, refl, arith, append-nil, append_assoc, if◌then◌else◌}
 use Rattle.std.proofs.lemmas.Bool.Decides.{nat_tests}
 use Rattle.std.proofs.lemmas.List.{drop_more, take_more}
-use Rattle.ws_pages.specs.Table.{group_of}
+use Rattle.ws_pages.specs.Page.{group_of}
 
 is_dot : (byte : ℕ) → (byte == 46) ≡ true → byte ≡ 46
 is_dot byte e = grind (arith, nat_tests)

@@ -1,7 +1,7 @@
 -- The first text of a name.
 use Rattle.std.proofs.Common.{◌≡◌, ◌∙◌, ℕ, ◌+◌, ◌<◌, Bool, true, List, length, drop, get_or, ap, sym, if◌then◌else◌}
 use Rattle.std.specs.Str.{bytes_eq}
-use Rattle.ws_pages.specs.Marks.{text_named}
+use Rattle.ws_pages.specs.NamedTexts.{text_named}
 use Rattle.ws_pages.specs.declared.named_text.NamedText.{NamedText}
 use Rattle.ws_pages.proofs.Walks.{rest_first}
 

@@ -1,31 +1,39 @@
 -- Worked examples, each a theorem.
-use Rattle.std.specs.Prelude.{◌≡◌, ℕ, List, [], ◌∷◌, Some, codes, false, refl, true}
-use Rattle.ws_pages.specs.Cells.{ResultValue, last_result}
-use Rattle.ws_pages.specs.Escaping.{in_string, on_page, on_terminal}
-use Rattle.ws_pages.specs.Json.{case_json, close_behavior, members_json}
-use Rattle.ws_pages.specs.Marks.{mark_of_words, why_of}
-use Rattle.ws_pages.specs.Page.{is_same}
-use Rattle.ws_pages.specs.Summary.{follows, most_frequent_first, runs_of, runs_text, verdicts_of}
-use Rattle.ws_pages.specs.Table.{each_once, group_of}
-use Rattle.ws_pages.specs.declared.mark.Mark.TheVariants.{Missing}
+use Rattle.std.specs.Prelude.{◌≡◌, ⊤, ℕ, List, [], ◌∷◌, Bool, codes, false, refl, true}
+use Rattle.std.specs.Char.{encode_utf8}
+use Rattle.std.specs.Str.{chars, is_utf8}
+use Rattle.ws_runs.specs.Runs.{PeerValue}
+use Rattle.ws_runs.specs.declared.mark.Mark.TheVariants.{NoConnection}
+use Rattle.ws_pages.specs.Page.{count_of, group_of, is_same, row_ids}
+use Rattle.ws_pages.specs.PageText.{on_page}
+use Rattle.ws_pages.specs.ShortNames.{short_front}
 
 -- ---- texts
 
+-- what is computed at texts that are written out
+unfoldable on_texts : ⊤
+unfolding chars is_utf8 encode_utf8 on_page
+on_texts = tt
+
 pub marks_of_a_page : on_page (codes "<a b=\"c\">'&'") ≡ codes "&lt;a b=&quot;c&quot;&gt;&#39;&amp;&#39;"
+unfolding on_texts
 marks_of_a_page = refl
 
--- a tab and a byte that isn't ASCII are replaced, a line feed is not
-pub no_printed_characters : on_page (9 ∷ 10 ∷ 200 ∷ []) ≡ codes "&#xFFFD;\n&#xFFFD;"
-no_printed_characters = refl
+-- `ü` and a line feed are shown; a tab, U+0085 and U+202E, which turns the order of others, are replaced
+pub hidden_characters : on_page (195 ∷ 188 ∷ 10 ∷ 9 ∷ 194 ∷ 133 ∷ 226 ∷ 128 ∷ 174 ∷ [])
+    ≡ 195 ∷ 188 ∷ 10 ∷ codes "&#xFFFD;&#xFFFD;&#xFFFD;"
+unfolding on_texts
+hidden_characters = refl
 
-pub marks_of_a_string : in_string (34 ∷ 92 ∷ 97 ∷ []) ≡ codes "\\\"\\\\a"
-marks_of_a_string = refl
+-- in a text that isn't UTF-8, also a byte of `ü` is replaced
+pub text_of_no_characters : on_page (255 ∷ 195 ∷ 188 ∷ 97 ∷ []) ≡ codes "&#xFFFD;&#xFFFD;&#xFFFD;a"
+unfolding on_texts
+text_of_no_characters = refl
 
--- what controls a terminal doesn't reach it
-pub escape_on_a_terminal : on_terminal (27 ∷ 91 ∷ []) ≡ codes "?["
-escape_on_a_terminal = refl
-
--- ---- names
+-- a name is cut in front of its 25th character, not of its 25th byte
+pub front_of_a_name : short_front (195 ∷ 188 ∷ codes "abcdefghijklmnopqrstuvwxyz")
+    ≡ 195 ∷ 188 ∷ codes "abcdefghijklmnopqrstuvw"
+front_of_a_name = refl
 
 pub group_before_a_dot : group_of (codes "12.1.3") ≡ codes "12"
 group_before_a_dot = refl
@@ -33,63 +41,35 @@ group_before_a_dot = refl
 pub group_without_a_dot : group_of (codes "mine") ≡ codes "mine"
 group_without_a_dot = refl
 
-pub first_come_first : each_once (codes "b" ∷ codes "a" ∷ codes "b" ∷ []) ≡ codes "b" ∷ codes "a" ∷ []
-first_come_first = refl
+-- ---- tables
 
--- ---- verdicts
-
-pub no_connection_has_no_verdict : mark_of_words (codes "no connection") ≡ Missing
-no_connection_has_no_verdict = refl
-
-pub why_of_a_hop : why_of (codes "FAIL far Close") ≡ codes "Close"
-why_of_a_hop = refl
-
-pub reset_is_unclean : close_behavior (codes "BrokenEnd") ≡ codes "UNCLEAN"
-reset_is_unclean = refl
-
--- ---- results
-
--- a result of this peer, case and words
-abbrev result : List ℕ → List ℕ → List ℕ → ResultValue
-result peer id words = record { peer = peer; id = id; words = words; line = []; below = [] }
-
--- of two lines of a case the last counts, and that of another peer doesn't
-pub last_line_counts : last_result (result (codes "x") (codes "1") (codes "PASS")
-    ∷ result (codes "x") (codes "1") (codes "FAIL End") ∷ result (codes "y") (codes "1") (codes "PASS") ∷ [])
-    (codes "x") (codes "1") ≡ Some (result (codes "x") (codes "1") (codes "FAIL End"))
-last_line_counts = refl
+-- a peer with a result of this case and these words, whose run was cut off or not
+abbrev peer : Bool → List ℕ → List ℕ → PeerValue
+peer is_cut_off id words = record {
+  name = codes "one";
+  notes = [];
+  is_cut_off = is_cut_off;
+  cells = record { id = id; words = words; line = []; below = [] } ∷ [];
+}
 
 -- a row in which one peer has no line differs
-pub missing_line_differs : is_same (result (codes "x") (codes "1") (codes "PASS") ∷ []) (codes "x" ∷ codes "y" ∷ [])
-    (codes "1") ≡ false
+pub missing_line_differs :
+    is_same (peer false (codes "1") (codes "PASS") ∷ peer false (codes "2") (codes "PASS") ∷ []) (codes "1") ≡ false
 missing_line_differs = refl
 
-pub member_of_a_case : case_json (result (codes "x") (codes "7.1") (codes "LOOSE OtherCode"))
-    ≡ codes "\"7.1\":{\"behavior\":\"NON-STRICT\",\"behaviorClose\":\"WRONG CODE\"}"
-member_of_a_case = refl
+-- a missing connection isn't a missing line
+pub no_connection_is_counted : count_of (codes "1" ∷ codes "2" ∷ []) (peer false (codes "1") (codes "no connection"))
+    NoConnection ≡ 1
+no_connection_is_counted = refl
 
--- a case without a line has no member, and no comma
-pub members_of_two_cases : members_json (result (codes "x") (codes "2") (codes "PASS") ∷ []) (codes "x")
-    (codes "1" ∷ codes "2" ∷ []) ≡ codes "\"2\":{\"behavior\":\"OK\",\"behaviorClose\":\"OK\"}"
-members_of_two_cases = refl
+-- of a run that was cut off, the listed cases that weren't run have rows; not beside a whole one
+pub rows_of_a_cut_run :
+    row_ids (record { peers = peer true (codes "2") (codes "PASS") ∷ []; ids = codes "2" ∷ [] })
+    (codes "1" ∷ codes "2" ∷ []) ≡ codes "2" ∷ codes "1" ∷ []
+rows_of_a_cut_run = refl
 
--- ---- summaries
-
--- three cases that fail in one way, and one that fails in another before them
-abbrev failed : List ResultValue
-failed = result (codes "x") (codes "1.1") (codes "FAIL Close") ∷ result (codes "x") (codes "1.2") (codes "FAIL End")
-    ∷ result (codes "x") (codes "1.3") (codes "FAIL End") ∷ result (codes "x") (codes "1.4") (codes "FAIL End") ∷ []
-
-pub most_frequent : most_frequent_first failed (verdicts_of failed) ≡ codes "FAIL End" ∷ codes "FAIL Close" ∷ []
-most_frequent = refl
-
-pub three_in_a_row : runs_text [] (runs_of (codes "1.1" ∷ codes "1.2" ∷ codes "1.3" ∷ codes "1.4" ∷ []) failed
-    (codes "FAIL End")) ≡ codes "1.2 to 1.4"
-three_in_a_row = refl
-
--- cases that don't follow one another in the list stay apart
-pub none_in_a_row : runs_text [] (runs_of [] failed (codes "FAIL End")) ≡ codes "1.2, 1.3, 1.4"
-none_in_a_row = refl
-
-pub next_in_the_list : follows (codes "1.1" ∷ codes "1.2" ∷ []) (codes "1.1") (codes "1.2") ≡ true
-next_in_the_list = refl
+pub rows_of_a_whole_run : row_ids (record {
+  peers = peer true (codes "2") (codes "PASS") ∷ peer false (codes "2") (codes "PASS") ∷ [];
+  ids = codes "2" ∷ [];
+}) (codes "1" ∷ codes "2" ∷ []) ≡ codes "2" ∷ []
+rows_of_a_whole_run = refl

@@ -1,10 +1,7 @@
-pub mod RunLines
-pub mod Cells
-pub mod Table
-pub mod Marks
-pub mod Escaping
+pub mod PageText
+pub mod NamedTexts
+pub mod ShortNames
+pub mod LastResults
 pub mod Page
-pub mod Json
-pub mod Summary
 pub mod Examples
 pub mod Views

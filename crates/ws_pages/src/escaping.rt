@@ -1,11 +1,12 @@
-//! Texts of the input, as they are written in HTML, in JSON and to a terminal.
+//! Texts of the input on a page.
 
 ghost use Rattle.std.specs.Prelude.{Some};
-ghost use Rattle.ws_pages.specs.Escaping.{on_page, byte_on_page, in_string, byte_in_string, on_terminal};
-ghost use Rattle.ws_pages.specs.Escaping.{byte_on_terminal};
+ghost use Rattle.std.specs.List.{flat_map};
+ghost use Rattle.std.specs.Str.{chars};
+ghost use Rattle.ws_pages.specs.PageText.{byte_on_page, character_on_page, on_page, plain_on_page};
 
 use std::fmt;
-use ws_formats::HexDigits;
+use ws_formats::is_invisible;
 
 /// A text on a page.
 #[derive(Clone, Copy)]
@@ -15,6 +16,36 @@ impl fmt::Display for Escaped<'_> {
     ghost output = { λ text. Some (on_page text.0.now) };
 
     fn fmt<W: fmt::Write>(&self, f: &mut fmt::Formatter<W>) -> fmt::Result {
+        match str::from_utf8(self.0) {
+            Ok(text) => write!(f, "{}", EscapedText(text)),
+            Err(_) => write!(f, "{}", EscapedBytes(self.0)),
+        }
+    }
+}
+
+/// The characters of a text on a page.
+#[derive(Clone, Copy)]
+struct EscapedText<'a>(&'a str);
+
+impl fmt::Display for EscapedText<'_> {
+    ghost output = { λ text. Some (flat_map character_on_page (chars text.0.now)) };
+
+    fn fmt<W: fmt::Write>(&self, f: &mut fmt::Formatter<W>) -> fmt::Result {
+        for character in self.0.chars() {
+            write!(f, "{}", EscapedCharacter(character))?;
+        }
+        Ok(())
+    }
+}
+
+/// The bytes of a text that isn't UTF-8, on a page.
+#[derive(Clone, Copy)]
+struct EscapedBytes<'a>(&'a [u8]);
+
+impl fmt::Display for EscapedBytes<'_> {
+    ghost output = { λ text. Some (flat_map byte_on_page text.0.now) };
+
+    fn fmt<W: fmt::Write>(&self, f: &mut fmt::Formatter<W>) -> fmt::Result {
         for byte in self.0 {
             write!(f, "{}", EscapedByte(*byte))?;
         }
@@ -22,7 +53,7 @@ impl fmt::Display for Escaped<'_> {
     }
 }
 
-/// A byte on a page. What is neither printable ASCII nor a line feed is written as the replacement character.
+/// A byte on a page.
 #[derive(Clone, Copy)]
 struct EscapedByte(u8);
 
@@ -30,77 +61,46 @@ impl fmt::Display for EscapedByte {
     ghost output = { λ byte. Some (byte_on_page byte.0) };
 
     fn fmt<W: fmt::Write>(&self, f: &mut fmt::Formatter<W>) -> fmt::Result {
-        match self.0 {
-            b'&' => write!(f, "&amp;"),
-            b'<' => write!(f, "&lt;"),
-            b'>' => write!(f, "&gt;"),
-            b'"' => write!(f, "&quot;"),
-            b'\'' => write!(f, "&#39;"),
-            b'\n' | 0x20..=0x7e => write!(f, "{}", char::from(self.0)),
-            _ => write!(f, "&#xFFFD;"),
+        if self.0 < 128 {
+            write!(f, "{}", EscapedCharacter(char::from(self.0)))
+        } else {
+            write!(f, "&#xFFFD;")
         }
     }
 }
 
-/// A text as a string in JSON, without the quotation marks around it.
+/// A character on a page.
 #[derive(Clone, Copy)]
-pub(crate) struct Quoted<'a>(pub(crate) &'a [u8]);
+struct EscapedCharacter(char);
 
-impl fmt::Display for Quoted<'_> {
-    ghost output = { λ text. Some (in_string text.0.now) };
-
-    fn fmt<W: fmt::Write>(&self, f: &mut fmt::Formatter<W>) -> fmt::Result {
-        for byte in self.0 {
-            write!(f, "{}", QuotedByte(*byte))?;
-        }
-        Ok(())
-    }
-}
-
-/// A byte of a string in JSON. What isn't printable ASCII is written by its number, so that no two names are written
-/// alike.
-#[derive(Clone, Copy)]
-struct QuotedByte(u8);
-
-impl fmt::Display for QuotedByte {
-    ghost output = { λ byte. Some (byte_in_string byte.0) };
+impl fmt::Display for EscapedCharacter {
+    ghost output = { λ character. Some (character_on_page character.0) };
 
     fn fmt<W: fmt::Write>(&self, f: &mut fmt::Formatter<W>) -> fmt::Result {
         match self.0 {
-            b'"' => write!(f, "\\\""),
-            b'\\' => write!(f, "\\\\"),
-            0x20..=0x7e => write!(f, "{}", char::from(self.0)),
-            byte => write!(f, "\\u00{}", HexDigits(&[byte])),
+            '&' => write!(f, "&amp;"),
+            '<' => write!(f, "&lt;"),
+            '>' => write!(f, "&gt;"),
+            '"' => write!(f, "&quot;"),
+            '\'' => write!(f, "&#39;"),
+            '\n' => write!(f, "\n"),
+            other => write!(f, "{}", PlainCharacter(other)),
         }
     }
 }
 
-/// A text on a terminal: what isn't printable ASCII is written as a question mark.
+/// A character that is no mark of HTML, on a page.
 #[derive(Clone, Copy)]
-pub(crate) struct Shown<'a>(pub(crate) &'a [u8]);
+struct PlainCharacter(char);
 
-impl fmt::Display for Shown<'_> {
-    ghost output = { λ text. Some (on_terminal text.0.now) };
+impl fmt::Display for PlainCharacter {
+    ghost output = { λ character. Some (plain_on_page character.0) };
 
     fn fmt<W: fmt::Write>(&self, f: &mut fmt::Formatter<W>) -> fmt::Result {
-        for byte in self.0 {
-            write!(f, "{}", ShownByte(*byte))?;
-        }
-        Ok(())
-    }
-}
-
-/// A byte on a terminal.
-#[derive(Clone, Copy)]
-struct ShownByte(u8);
-
-impl fmt::Display for ShownByte {
-    ghost output = { λ byte. Some (byte_on_terminal byte.0) };
-
-    fn fmt<W: fmt::Write>(&self, f: &mut fmt::Formatter<W>) -> fmt::Result {
-        match self.0 {
-            0x20..=0x7e => write!(f, "{}", char::from(self.0)),
-            _ => write!(f, "?"),
+        if self.0.is_control() || is_invisible(self.0) {
+            write!(f, "&#xFFFD;")
+        } else {
+            write!(f, "{}", self.0)
         }
     }
 }

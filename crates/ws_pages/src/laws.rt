@@ -1,10 +1,11 @@
 //! Laws over the definitions, each the contract of a function that does nothing.
 
 ghost use Rattle.std.specs.Prelude.{◌≡◌, ℕ, All, List, true};
-ghost use Rattle.ws_pages.specs.Cells.{HasLastResult, results_of};
-ghost use Rattle.ws_pages.specs.Escaping.{IsTextOnPage, on_page};
-ghost use Rattle.ws_pages.specs.Table.{IsEachOnce, peers_of, case_ids, is_among};
-ghost use Rattle.ws_pages.specs.declared.run_line.RunLine.{RunLine};
+ghost use Rattle.ws_pages.specs.LastResults.{HasResult, cell_at, last_result};
+ghost use Rattle.ws_pages.specs.PageText.{IsTextOnPage, on_page};
+ghost use Rattle.ws_runs.specs.Names.{IsEachOnce, is_among};
+ghost use Rattle.ws_runs.specs.RunLines.{RunLine};
+ghost use Rattle.ws_runs.specs.Runs.{peer_names, runs_of};
 
 /// What comes from the input begins and ends nothing on a page: no tag, and no text of an attribute.
 pub fn input_ends_nothing_on_a_page()
@@ -15,11 +16,12 @@ pub fn input_ends_nothing_on_a_page()
 /// once, so the line belongs to one cell. In that cell is the last line of that peer and that case, and no line of
 /// another.
 pub fn each_result_has_a_cell()
-    ensures column { (lines : List RunLine)
-        → All (λ result. is_among result.peer (peers_of lines) ≡ true) (results_of lines) }
-    ensures row { (lines : List RunLine)
-        → All (λ result. is_among result.id (case_ids (results_of lines)) ≡ true) (results_of lines) }
-    ensures peers_once { (lines : List RunLine) → IsEachOnce (peers_of lines) }
-    ensures ids_once { (lines : List RunLine) → IsEachOnce (case_ids (results_of lines)) }
-    ensures cell { (lines : List RunLine) → All (HasLastResult lines) (results_of lines) }
+    ensures column { (lines : List RunLine) (name id : List ℕ) → HasResult lines name id
+        → is_among name (peer_names (runs_of lines).peers) ≡ true }
+    ensures row { (lines : List RunLine) (name id : List ℕ) → HasResult lines name id
+        → is_among id (runs_of lines).ids ≡ true }
+    ensures peers_once { (lines : List RunLine) → IsEachOnce (peer_names (runs_of lines).peers) }
+    ensures ids_once { (lines : List RunLine) → IsEachOnce (runs_of lines).ids }
+    ensures cell { (lines : List RunLine) (name id : List ℕ)
+        → cell_at (runs_of lines).peers name id ≡ last_result lines name id }
 {}

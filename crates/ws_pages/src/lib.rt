@@ -1,33 +1,24 @@
-//! Runs over cases side by side, of one tested peer or of many (a peer is its name here): a page of HTML with a
-//! row for each case and a column for each peer, an index in JSON, and a summary. A verdict is its words here;
-//! scripts and rules are texts that are given.
+//! A page of HTML about runs over cases side by side, of one tested peer or of many: a row for each case and a column
+//! for each peer. Titles, scripts and rules are texts that are given.
 //!
-//! The layers above use the contracts of `read_runs`, for the list of lines, and of `page_text`, `index_text` and
-//! `summary_text`, for what is written. The definition `cell_of` says which line is in which cell.
+//! The layers above use the contract of `page_text`, for what is written.
 #![tactic(auto)]
 
-mod cell;
 mod cell_html;
-mod count;
-mod distinct;
 mod escaping;
-mod group_html;
-mod id_runs;
-mod index;
+mod head_html;
 pub mod laws;
-mod mark;
+mod marks;
 mod named_text;
 mod page;
-mod results;
+mod panel_html;
 mod row_html;
-mod run_line;
+mod rows;
+mod short_name;
 mod style;
-mod summary;
-mod tally;
+mod table;
 mod total_html;
 
-pub use index::index_text;
-pub use named_text::NamedText;
+pub use named_text::{NamedText, text_named};
 pub use page::page_text;
-pub use run_line::{RunLine, read_runs};
-pub use summary::summary_text;
+pub use table::PageTexts;

@@ -1,7 +1,7 @@
-//! Texts with a name: the scripts of cases, and the rules of verdicts.
+//! Texts with a name: the titles and scripts of cases, the names of groups, and the rules of verdicts.
 
 ghost use Rattle.std.specs.Prelude.{◌≡◌};
-ghost use Rattle.ws_pages.specs.Marks.{text_named};
+ghost use Rattle.ws_pages.specs.NamedTexts.{text_named};
 
 use ws_base::Payload;
 
@@ -13,7 +13,7 @@ pub struct NamedText {
 }
 
 /// The first text of a name. Empty if there is none.
-pub(crate) fn text_named<'a>(texts: &'a [NamedText], name: &[u8]) -> &'a [u8]
+pub fn text_named<'a>(texts: &'a [NamedText], name: &[u8]) -> &'a [u8]
     ensures { result.now ≡ text_named texts.now name.now }
 {
     for text in texts {

@@ -1,83 +1,59 @@
 //! A page of HTML that needs nothing else.
 
-ghost use Rattle.std.specs.Prelude.{◌≡◌, IfOk, Some, string_bytes};
-ghost use Rattle.ws_pages.specs.Page.{IsPageOf, fixed_parts, groups_html, page_html};
-ghost use Rattle.ws_pages.specs.Views.{page_frame, result_values, table_value};
+ghost use Rattle.std.specs.Prelude.{◌≡◌, IfOk, Some, map, string_bytes};
+ghost use Rattle.ws_pages.specs.Page.{IsPageOf, filter_html, fixed_parts, page_html, paragraph, table_html, table_with};
+ghost use Rattle.ws_pages.specs.Page.{top_html};
+ghost use Rattle.ws_pages.specs.Views.{page_frame, table_value, texts_value};
+ghost use Rattle.ws_runs.specs.Views.{texts_now};
 
-use crate::distinct::{case_groups, ids_of, peers_of};
-use crate::group_html::GroupHtml;
-use crate::named_text::NamedText;
-use crate::results::{CaseResult, results_of};
-use crate::row_html::Table;
-use crate::run_line::RunLine;
-use crate::style::{BACK, FAILS, FILTER, FRONT};
+use crate::head_html::HeadsHtml;
+use crate::panel_html::Paragraph;
+use crate::row_html::RowsHtml;
+use crate::rows::row_ids;
+use crate::style::{BACK, FAILS, FILTER, FRONT, LEGEND};
+use crate::table::{PageTexts, Table};
 use crate::total_html::TotalsHtml;
 use std::alloc::Global;
 use std::fmt;
-use ws_base::{NoMemory, Payload};
+use ws_base::NoMemory;
+use ws_runs::{Peer, Runs};
 
-/// The page of the runs in these lines: a table with a row for each case and a column for each peer, with these scripts
-/// of cases and these rules of verdicts.
-pub fn page_text(
+/// The page of these runs, with a date or another text for its head, which may be empty: a table with a row for each
+/// case and a column for each peer. If no run was whole, the listed cases have rows too.
+pub fn page_text<'a>(
     alloc: Global,
-    lines: &[RunLine],
-    scripts: &[NamedText],
-    rules: &[NamedText],
+    runs: &Runs<'a>,
+    listed: &'a [String],
+    date: &str,
+    texts: PageTexts<'_>,
 ) -> Result<String, NoMemory>
-    ensures { IfOk result (λ text. IsPageOf lines.now scripts.now rules.now (string_bytes text)) }
+    ensures { IfOk result (λ text. IsPageOf date.now (map string_bytes listed.now) runs.now (texts_value texts.entry)
+        (string_bytes text)) }
 {
-    let results = results_of(alloc, lines)?;
-    let peers = peers_of(alloc, lines)?;
-    let ids = ids_of(alloc, results.as_slice())?;
-    let table = table_of(
-        results.as_slice(),
-        peers.as_slice(),
-        ids.as_slice(),
-        scripts,
-        rules,
-    );
-    let groups = case_groups(alloc, ids.as_slice())?;
-    let text = page_of(alloc, table, groups.as_slice())?;
+    let ids = row_ids(alloc, runs, listed)?;
+    let text = page_of(alloc, runs.peers(), ids.as_slice(), date, texts)?;
     Ok(text)
 }
 
-/// What the tables of a page are made of.
-fn table_of<'a>(
-    results: &'a [CaseResult<'a>],
-    peers: &'a [Payload],
-    ids: &'a [Payload],
-    scripts: &'a [NamedText],
-    rules: &'a [NamedText],
-) -> Table<'a>
-    ensures { table_value result ≡ record {
-      results = result_values results.now;
-      peers = peers.now;
-      ids = ids.now;
-      scripts = scripts.now;
-      rules = rules.now;
-    } }
-{
-    Table {
-        results,
-        peers,
-        ids,
-        scripts,
-        rules,
-    }
-}
-
-/// The page of these tables.
-fn page_of<'a>(alloc: Global, table: Table<'a>, groups: &'a [Payload]) -> Result<String, NoMemory>
+/// The page with these columns and rows.
+fn page_of<'a>(
+    alloc: Global,
+    peers: &[Peer<'a>],
+    ids: &[&'a [u8]],
+    date: &str,
+    texts: PageTexts<'_>,
+) -> Result<String, NoMemory>
     ensures { IfOk result (λ text. string_bytes text
-        ≡ page_html fixed_parts (table_value table.entry) groups.now) }
+        ≡ page_html fixed_parts date.now (table_with peers.now (texts_now ids.now) (texts_value texts.entry))) }
 {
     let page = Page {
         front: FRONT,
+        legend: LEGEND,
         fails: FAILS,
         filter: FILTER,
         back: BACK,
-        table,
-        groups,
+        date,
+        table: Table { peers, ids, texts },
     };
     let text = format!(in alloc; "{page}")?;
     Ok(text)
@@ -85,56 +61,92 @@ fn page_of<'a>(alloc: Global, table: Table<'a>, groups: &'a [Payload]) -> Result
 
 /// A page.
 #[derive(Clone, Copy)]
-struct Page<'f, 'a> {
-    /// What comes in front of the totals, the filters, and what comes last.
+struct Page<'f, 'd, 'p, 'i, 't, 'a> {
+    /// What comes in front of the date, what comes in front of the totals, the filters, and what comes last.
     front: &'f str,
+    legend: &'f str,
     fails: &'f str,
     filter: &'f str,
     back: &'f str,
-    table: Table<'a>,
-    groups: &'a [Payload],
+    date: &'d str,
+    table: Table<'p, 'i, 't, 'a>,
 }
 
-impl fmt::Display for Page<'_, '_> {
-    ghost output = { λ page. Some (page_html (page_frame page) (table_value page.table) page.groups.now) };
+impl fmt::Display for Page<'_, '_, '_, '_, '_, '_> {
+    ghost output = { λ page. Some (page_html (page_frame page) page.date.now (table_value page.table)) };
 
     fn fmt<W: fmt::Write>(&self, f: &mut fmt::Formatter<W>) -> fmt::Result {
-        let (front, fails, back) = (self.front, self.fails, self.back);
-        let totals = TotalsHtml(self.table);
-        let filter = if self.table.peers.len() > 1 {
-            self.filter
-        } else {
-            ""
+        let (fails, back) = (self.fails, self.back);
+        let top = TopHtml(*self);
+        let filter = FilterHtml {
+            filter: self.filter,
+            peers: self.table.peers,
         };
-        let groups = GroupsHtml {
-            table: self.table,
-            groups: self.groups,
-        };
+        let table = TableHtml(self.table);
+        write!(f, "{top}{fails}{filter}{table}{back}")
+    }
+}
+
+/// What is in front of the table: the date and the totals.
+#[derive(Clone, Copy)]
+struct TopHtml<'f, 'd, 'p, 'i, 't, 'a>(Page<'f, 'd, 'p, 'i, 't, 'a>);
+
+impl fmt::Display for TopHtml<'_, '_, '_, '_, '_, '_> {
+    ghost output = { λ html. Some (top_html (page_frame html.0) html.0.date.now (table_value html.0.table)) };
+
+    fn fmt<W: fmt::Write>(&self, f: &mut fmt::Formatter<W>) -> fmt::Result {
+        let (front, legend) = (self.0.front, self.0.legend);
+        let date = DateHtml(self.0.date);
+        let totals = TotalsHtml(self.0.table);
+        write!(f, "{front}{date}{legend}{totals}</tbody></table>\n")
+    }
+}
+
+/// The table.
+#[derive(Clone, Copy)]
+struct TableHtml<'p, 'i, 't, 'a>(Table<'p, 'i, 't, 'a>);
+
+impl fmt::Display for TableHtml<'_, '_, '_, '_> {
+    ghost output = { λ html. Some (table_html (table_value html.0)) };
+
+    fn fmt<W: fmt::Write>(&self, f: &mut fmt::Formatter<W>) -> fmt::Result {
+        let heads = HeadsHtml(self.0);
+        let rows = RowsHtml(self.0);
         write!(
             f,
-            "{front}{totals}</tbody></table>\n{fails}{filter}<main>\n{groups}</main>\n{back}"
+            "<main><table class=\"wide\">\n<thead><tr><th scope=\"col\">Case</th>{heads}</tr></thead>\n<tbody>\n\
+             {rows}</tbody></table></main>\n"
         )
     }
 }
 
-/// The tables of all groups.
+/// The text for the head, or nothing for an empty text.
 #[derive(Clone, Copy)]
-struct GroupsHtml<'a> {
-    table: Table<'a>,
-    groups: &'a [Payload],
-}
+struct DateHtml<'a>(&'a str);
 
-impl fmt::Display for GroupsHtml<'_> {
-    ghost output = { λ html. Some (groups_html (table_value html.table) html.groups.now) };
+impl fmt::Display for DateHtml<'_> {
+    ghost output = { λ html. Some (paragraph html.0.now) };
 
     fn fmt<W: fmt::Write>(&self, f: &mut fmt::Formatter<W>) -> fmt::Result {
-        for group in self.groups {
-            let html = GroupHtml {
-                table: self.table,
-                group: group.as_slice(),
-            };
-            write!(f, "{html}")?;
+        write!(f, "{}", Paragraph(self.0.as_bytes()))
+    }
+}
+
+/// The filter, if there is more than one peer.
+#[derive(Clone, Copy)]
+struct FilterHtml<'f, 'p, 'a> {
+    filter: &'f str,
+    peers: &'p [Peer<'a>],
+}
+
+impl fmt::Display for FilterHtml<'_, '_, '_> {
+    ghost output = { λ html. Some (filter_html html.filter.now html.peers.now) };
+
+    fn fmt<W: fmt::Write>(&self, f: &mut fmt::Formatter<W>) -> fmt::Result {
+        if self.peers.len() > 1 {
+            write!(f, "{}", self.filter)
+        } else {
+            Ok(())
         }
-        Ok(())
     }
 }

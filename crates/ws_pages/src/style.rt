@@ -1,11 +1,11 @@
-//! What stands on every page: its head, with the style, and its JavaScript.
+//! What is on every page: its head, with the style, and the filters. There is no JavaScript.
 
-/// What stands before the totals of the peers.
+/// What comes in front of the date.
 pub(crate) const FRONT: &str = "<!DOCTYPE html>
 <html lang=\"en\">
 <head>
 <meta charset=\"utf-8\">
-<meta name=\"viewport\" content=\"width=device-width, initial-scale=1\">
+<meta name=\"viewport\" content=\"width=device-width, initial-scale=1, minimum-scale=1\">
 <title>wst report</title>
 <style>
 :root { color-scheme: light dark; --page: #ffffff; --text: #1b1f24; --soft: #57606a; --rule: #d0d7de; --head: #f2f4f7;
@@ -19,126 +19,109 @@ pub(crate) const FRONT: &str = "<!DOCTYPE html>
 body { margin: 1rem; font: 15px/1.4 system-ui, sans-serif; color: var(--text); background: var(--page); }
 h1 { margin: 0 0 .25rem; font-size: 1.4rem; }
 p { margin: 0 0 .75rem; color: var(--soft); }
+a { color: inherit; }
+b, span, pre, .totals div { unicode-bidi: isolate; }
+small { font-size: .8rem; color: var(--soft); }
 table { border-collapse: separate; border-spacing: 0; border: solid var(--rule); border-width: 1px 0 0 1px; }
 th, td { border: solid var(--rule); border-width: 0 1px 1px 0; padding: .1rem .45rem; text-align: left;
   font-weight: normal; }
 thead th { background: var(--head); vertical-align: bottom; }
 label { margin-right: 1rem; }
 .totals { margin-bottom: .75rem; }
-.totals td, .totals thead th { text-align: right; font-variant-numeric: tabular-nums; }
+.totals td, .totals thead th { text-align: right; vertical-align: top; font-variant-numeric: tabular-nums; }
 .totals th:first-child { text-align: left; overflow-wrap: anywhere; }
-main { display: flex; flex-wrap: wrap; gap: .75rem; align-items: flex-start; margin-top: .75rem; }
-.group { border: 1px solid var(--rule); border-radius: .4rem; }
-.group > summary { position: sticky; left: 0; max-width: 90vw; padding: .25rem .6rem; font-weight: 600; }
-.wide { margin: 0 .5rem .5rem; }
-summary { cursor: pointer; }
+.totals b { font-weight: normal; margin-right: .6rem; }
+.totals div { color: var(--soft); }
+main { margin-top: .75rem; }
 .wide thead th { position: sticky; z-index: 2; top: 0; }
-.wide th:first-child { position: sticky; z-index: 1; left: 0; background: var(--head); min-width: 3.6rem; }
+.wide th:first-child { position: sticky; z-index: 1; left: 0; background: var(--head); }
 .wide thead th:first-child { z-index: 3; }
-.wide tr { scroll-margin-top: 12rem; }
-.wide tr:target th { font-weight: 600; }
-.wide th:has(details[open]) { z-index: 4; }
-.end { padding: .3rem 0; }
-.end span { display: block; margin: 0 auto; max-height: 11rem; overflow: hidden; writing-mode: vertical-rl;
-  transform: rotate(180deg); text-overflow: ellipsis; white-space: nowrap; }
-.end:nth-child(2):last-child span { max-width: 10rem; max-height: none; padding: 0 .3rem; writing-mode: horizontal-tb;
-  transform: none; }
+.wide th span { margin-left: .4rem; color: var(--soft); }
+.wide .end { padding: .3rem 0; text-align: center; white-space: nowrap; }
+.wide .end span { color: inherit; }
+.end span, .end small { display: inline-block; vertical-align: bottom; writing-mode: vertical-rl;
+  transform: rotate(180deg); }
+.end:nth-child(2):last-child span, .end:nth-child(2):last-child small { display: block; padding: 0 .3rem;
+  writing-mode: horizontal-tb; transform: none; }
+.wide .group th { background: var(--page); font-weight: 600; }
+.group label { position: sticky; left: .45rem; cursor: pointer; }
 .wide td { width: 1.6rem; min-width: 1.6rem; padding: 0; text-align: center; }
-.wide td summary, .wide th summary { list-style: none; }
-.wide td summary::-webkit-details-marker, .wide th summary::-webkit-details-marker { display: none; }
-.wide th summary { text-decoration: underline dotted; }
-.P { background: var(--pass); color: var(--pass-text); }
-.L { background: var(--loose); color: var(--loose-text); font-style: italic;
+td a { display: block; text-decoration: none; }
+th a { text-decoration: underline dotted; }
+tr { scroll-margin-top: 20rem; }
+tr:target th, tr:target td { border-bottom-color: currentColor; }
+tr:target th:first-child a { font-weight: 600; }
+td.P { background: var(--pass); color: var(--pass-text); }
+td.L { background: var(--loose); color: var(--loose-text); font-style: italic;
   box-shadow: inset 0 -3px var(--loose-text); }
-.F { background: var(--fail); color: var(--fail-text); font-weight: 800; box-shadow: inset 0 0 0 2px var(--page); }
-.N { background: var(--none); color: var(--none-text); }
-.wide details[open] > summary { outline: 3px solid currentColor; outline-offset: -3px; }
-.wide details > div { position: fixed; z-index: 5; left: 0; right: 0; bottom: 0; max-height: 45vh; overflow: auto;
-  box-sizing: border-box; padding: .6rem 1rem; border-top: 2px solid var(--rule); text-align: left; font-weight: normal;
-  font-style: normal; color: var(--text); background: var(--page); box-shadow: 0 -.3rem 1rem rgba(0, 0, 0, .25); }
-.wide tr:has(td details[open]) th details > div { right: auto; width: 34vw; height: 35vh; }
-.wide tr:has(th details[open]) td details > div { left: 34vw; height: 35vh; }
-pre { margin: .3rem 0; white-space: pre-wrap; overflow-wrap: anywhere; font: 13px/1.45 ui-monospace, monospace; }
-.wide details > div p { margin: .3rem 0 0; white-space: pre-line; }
-#fails:checked ~ main tr:has(td):not(:has(.F)), #fails:checked ~ main .group:not(:has(.F)),
-#differ:checked ~ main tr.same, #differ:checked ~ main .group:not(:has(tr.other)) { display: none; }
+td.F { background: var(--fail); color: var(--fail-text); font-weight: 800; box-shadow: inset 0 0 0 2px var(--page); }
+td.X { background: var(--page); color: var(--text); font-weight: 800; box-shadow: inset 0 0 0 3px var(--fail); }
+td.N { background: var(--none); color: var(--none-text); }
+.panel { display: none; }
+tr:target + .panel { display: table-row; }
+.panel > td { text-align: left; }
+.panel > td > div { contain: inline-size; position: sticky; left: 0; box-sizing: border-box;
+  width: min(100%, 100vw - 2rem); padding: .5rem .75rem .75rem; }
+.panel a { float: right; padding: 0 .4rem; text-decoration: underline; }
+.panel > td > div > div { display: flex; flex-direction: column; }
+.panel > td > div > div > div { margin-top: .5rem; padding-left: .6rem; border-left: 4px solid var(--pass-text); }
+.panel div div div.F, .panel div div div.X { order: -2; border-left-color: var(--fail); }
+.panel div div div.L { order: -1; border-left-color: var(--loose); }
+.panel div div div.P { display: flex; flex-wrap: wrap; gap: 0 .6rem; margin-top: .2rem; }
+pre { margin: .1rem 0; white-space: pre-wrap; overflow-wrap: anywhere; font: 13px/1.45 ui-monospace, monospace; }
+.panel p { margin: .1rem 0 0; white-space: pre-line; }
+tbody:has(.group input:not(:checked)) tr:not(.group):not(:target):not(tr:target + tr),
+#fails:checked ~ main tr:is(.same, .other):not(:has(.F, .X)),
+#fails:checked ~ main tr:is(.same, .other):not(:has(.F, .X)) + .panel, #fails:checked ~ main tbody:not(:has(.F, .X)),
+#differ:checked ~ main tr.same, #differ:checked ~ main tr.same + .panel,
+#differ:checked ~ main tbody:not(:has(tr.other)) { display: none; }
+@media (min-width: 50rem), print {
+  .totals div { display: inline; }
+  .totals div, .totals small { margin-right: .6rem; }
+}
 @media (max-width: 40rem) {
-  .wide tr:has(td details[open]) th details > div { top: 0; bottom: auto; right: 0; width: auto; height: auto;
-    max-height: 30vh; border-bottom: 2px solid var(--rule); }
-  .wide tr:has(th details[open]) td details > div { left: 0; height: auto; }
+  .wide:has(.end:nth-child(5)) tbody th:first-child { max-width: 6.5rem; overflow: hidden; text-overflow: ellipsis;
+    white-space: nowrap; }
 }
 @media print {
   body { margin: 0; font-size: 9pt; }
-  #fails, #differ, label, .group:not([open]) { display: none; }
+  pre { font-size: 8pt; }
+  .wide td { width: auto; min-width: 1.2rem; }
+  #fails, #differ, label[for], .group input, .panel a, tbody:has(.group input:not(:checked)):not(:has(:target)) {
+    display: none; }
   th, td { print-color-adjust: exact; -webkit-print-color-adjust: exact; }
-  main { display: block; }
-  .group { margin-bottom: .75rem; border: 0; }
-  .group > summary { break-after: avoid; }
-  .wide { margin: 0; }
-  .wide thead th, .wide th:first-child { position: static; }
+  .wide thead th, .wide th:first-child, .group label, .panel > td > div { position: static; }
+  .panel > td > div { width: auto; }
   tr { break-inside: avoid; }
-  .wide tr details > div, .wide tr:has(td details[open]) th details > div,
-  .wide tr:has(th details[open]) td details > div { position: static; width: auto; min-width: 14rem; height: auto;
-    max-height: none; box-shadow: none; border: 0; }
+  .group { break-after: avoid; }
 }
 </style>
 </head>
 <body>
 <h1>wst report</h1>
-<p>P pass, L loose, F fail, - no verdict. Click a letter for the result, a case number for the frames sent.</p>
+";
+
+/// What comes between the date and the totals.
+pub(crate) const LEGEND: &str = "
+<p>P pass, L loose, F fail, X no connection, - not run. Click a letter or a case for the frames sent, the results and
+the rules.</p>
 <table class=\"totals\">
 <thead><tr><th scope=\"col\">Peer</th><th scope=\"col\">P</th>
-<th scope=\"col\">L</th><th scope=\"col\">F</th><th scope=\"col\">-</th></tr></thead>
+<th scope=\"col\">L</th><th scope=\"col\">F, X</th><th scope=\"col\">-</th></tr></thead>
 <tbody>
 ";
 
-/// What stands behind the totals: it hides the rows without a Fail.
+/// What comes after the totals: it hides the rows without a Fail.
 pub(crate) const FAILS: &str = "<input type=\"checkbox\" id=\"fails\">
-<label for=\"fails\">Only rows with an F</label>
+<label for=\"fails\">Only rows with an F or X</label>
 ";
 
-/// What stands where there is more than one peer: it hides the rows in which all have one letter.
+/// What comes if there is more than one peer: it hides the rows in which all have one letter.
 pub(crate) const FILTER: &str = "<input type=\"checkbox\" id=\"differ\">
 <label for=\"differ\">Only rows where peers differ</label>
 ";
 
-/// What stands last: a letter opens the script of its case too, what is opened closes what is open in other rows, and a
-/// link to a case opens it. Without the JavaScript, what is opened stays open until it is closed.
-pub(crate) const BACK: &str = "<script>
-var open_details = '.wide details[open]';
-function close_but(row, cell) {
-  document.querySelectorAll(open_details).forEach(function (other) {
-    var same = row && other.closest('tr') === row;
-    if (!same || (cell && other.closest('td') && other.closest('td') !== cell)) other.open = false;
-  });
-}
-function open_script(row) {
-  var script = row.querySelector('th details');
-  if (script) script.open = true;
-}
-function open_linked() {
-  var row = location.hash.length > 1 && document.getElementById(decodeURIComponent(location.hash.slice(1)));
-  if (!row || !row.closest('.wide')) return;
-  row.closest('.group').open = true;
-  row.scrollIntoView();
-  var results = row.querySelectorAll('td details');
-  if (results.length === 1) results[0].open = true; else open_script(row);
-}
-document.addEventListener('toggle', function (event) {
-  var row = event.target.closest('tr'), cell = event.target.closest('td');
-  if (!row || !event.target.closest('.wide')) return;
-  if (event.target.open) {
-    close_but(row, cell);
-    if (cell) open_script(row);
-    history.replaceState(null, '', '#' + row.id);
-  } else if (cell && !row.querySelector('td details[open]')) {
-    close_but(null);
-  }
-}, true);
-document.addEventListener('keydown', function (event) { if (event.key === 'Escape') close_but(null); });
-window.addEventListener('hashchange', open_linked);
-open_linked();
-</script>
-</body>
+/// What comes last.
+pub(crate) const BACK: &str = "</body>
 </html>
 ";

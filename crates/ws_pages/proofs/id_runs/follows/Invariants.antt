@@ -1,8 +1,0 @@
--- None of the names so far is the one, and what is left decides.
-use Rattle.std.proofs.Common.{◌≡◌, drop, map, string_bytes}
-use Rattle.ws_pages.specs.Summary.{follows}
-use Rattle.ws_pages.proofs.id_runs.follows.Given as goal
-
-abbrev pub invariant-loop-place : goal.invariant-loop-place
-invariant-loop-place l =
-    follows (map string_bytes (drop l.place l.listed)) l.one l.other ≡ follows (map string_bytes l.listed) l.one l.other

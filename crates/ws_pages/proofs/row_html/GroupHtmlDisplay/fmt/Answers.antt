@@ -1,0 +1,5 @@
+-- The name is that of the group.
+use Rattle.ws_pages.proofs.row_html.GroupHtmlDisplay.fmt.Goals as goal
+
+pub returns-clause-writes : goal.returns-clause-writes
+returns-clause-writes g c = λ plain ok. rw (c.text_named.ensures) at (c.write.ensures.writes plain ok)
