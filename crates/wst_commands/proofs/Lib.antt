@@ -10,5 +10,6 @@ pub mod Explained
 pub mod Told
 pub mod NamedScripts
 pub mod RuleTexts
+pub mod PageRecords
 pub mod ShownTexts
 pub mod FirstPlaces

@@ -8,7 +8,7 @@ use Rattle.std.specs.declared.alloc.Global.{Global}
 use Rattle.std.specs.declared.string.String.{String}
 use Rattle.ws_pages.specs.declared.named_text.NamedText.{NamedText}
 use Rattle.ws_scripts.specs.CaseNames.{case_names}
-use Rattle.wst_commands.specs.Report.{AreScripts, IsScriptOf, named_script}
+use Rattle.wst_commands.specs.PageTexts.{AreScripts, IsScriptOf, named_script}
 use Rattle.wst_commands.proofs.CaseLemmas.{one_more_case}
 
 abbrev pub named : List ℕ → List ℕ → NamedText

@@ -2,7 +2,7 @@
 use Rattle.std.proofs.Common.{◌≡◌, ◌∙◌, ℕ, List, ap₂}
 use Rattle.ws_scripts.specs.declared.expectation.Expectation.TheVariants.{Echo, Protocol}
 use Rattle.ws_suite.specs.declared.verdict.Verdict.{Verdict}
-use Rattle.wst_commands.specs.Report.{rule_text, rules_by, why_name, with_protocol}
+use Rattle.wst_commands.specs.PageTexts.{rule_text, rules_by, why_name, with_protocol}
 use Rattle.wst_commands.proofs.NamedScripts.{named}
 
 pub same_text : (verdict : Verdict) (name text echo protocol : List ℕ) → name ≡ why_name verdict

@@ -12,6 +12,7 @@ use Rattle.wst_commands.specs.declared.fault.Fault.TheVariants.{BadLimits, BadPr
 use Rattle.wst_commands.specs.declared.fault.Fault.TheVariants.{NotACall, NotACapture, NotAMove, NotAStep, NotAVerdict}
 use Rattle.wst_commands.specs.declared.fault.Fault.TheVariants.{NotListening, StreamWithCapture}
 use Rattle.wst_commands.specs.declared.fault.Fault.TheVariants.{NoText, NoTask, NoMemory, RoleWithoutCapture}
+use Rattle.wst_commands.specs.declared.fault.Fault.TheVariants.{JunitWithJson, JunitWithSummary, NotAName}
 use Rattle.wst_commands.specs.declared.fault.Fault.TheVariants.{SummaryWithJson, TimeoutWithUnit}
 use Rattle.wst_commands.specs.declared.fault.ListenFault.{ListenFault}
 use Rattle.wst_commands.specs.declared.fault.ListenFault.TheVariants as why
@@ -48,12 +49,15 @@ TellsFault StreamWithCapture exit faults =
     (exit ≡ WrongWords) × Tells (codes "--capture takes no --from or --budget\n") faults
 TellsFault RoleWithoutCapture exit faults = (exit ≡ WrongWords) × Tells (codes "--role takes --capture\n") faults
 TellsFault SummaryWithJson exit faults = (exit ≡ WrongWords) × Tells (codes "--summary takes no --json\n") faults
+TellsFault JunitWithJson exit faults = (exit ≡ WrongWords) × Tells (codes "--junit takes no --json\n") faults
+TellsFault JunitWithSummary exit faults = (exit ≡ WrongWords) × Tells (codes "--junit takes no --summary\n") faults
 TellsFault HeadIsCut exit faults = (exit ≡ Damaged) × Tells (codes "head is cut\n") faults
 TellsFault (NotAMove number) exit faults = TellsLine number (codes "not a move") exit faults
 TellsFault (NotACall number) exit faults = TellsLine number (codes "not a call") exit faults
 TellsFault (NotACapture number) exit faults = TellsLine number (codes "not a capture") exit faults
 TellsFault (NotAStep number damage) exit faults = TellsLine number (damage_words damage) exit faults
 TellsFault (NotAVerdict number) exit faults = TellsLine number (codes "not a verdict") exit faults
+TellsFault (NotAName number) exit faults = TellsLine number (codes "not a name") exit faults
 TellsFault NoText exit faults = (exit ≡ WrongWords) × Tells (codes "error: the arguments are not UTF-8\n") faults
 TellsFault NoTask exit faults = (exit ≡ WrongWords) × Tells (codes "error: the arguments ask for nothing\n") faults
 TellsFault (NotListening why) exit faults = (exit ≡ Failed) × Tells (not_listening_line why) faults

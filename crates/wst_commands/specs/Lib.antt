@@ -16,6 +16,7 @@ pub mod Pairs
 pub mod Session
 pub mod Judge
 pub mod Convert
+pub mod PageTexts
 pub mod Report
 pub mod GivenCases
 pub mod Cases

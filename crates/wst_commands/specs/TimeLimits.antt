@@ -8,15 +8,15 @@ use Rattle.ws_formats.specs.Words.{IsNumberWord}
 use Rattle.wst_commands.specs.declared.time_limit.TimeLimit.{TimeLimit}
 use Rattle.wst_commands.specs.declared.time_limit.TimeLimit.TheVariants.{Seconds, Unlimited}
 
--- the word is that of so many seconds: 1 to the most, in decimal digits without leading zeros
-abbrev pub IsSecondsWord : ℕ → ℕ → List ℕ → Type 0
-IsSecondsWord most seconds word = (1 ≤ seconds) × IsNumberWord most seconds word
+-- the word is a count of 1 to the most, in decimal digits without leading zeros
+abbrev pub IsCountWord : ℕ → ℕ → List ℕ → Type 0
+IsCountWord most count word = (1 ≤ count) × IsNumberWord most count word
 
 -- the option gives this limit of at most so many seconds: that of its word, and none where it is left out
 abbrev pub GivesLimit : ℕ → Option (Bor (List ℕ)) → TimeLimit → Type 0
 GivesLimit most None limit = limit ≡ Unlimited
 GivesLimit most (Some word) Unlimited = ⊥
-GivesLimit most (Some word) (Seconds seconds) = IsSecondsWord most seconds word.now
+GivesLimit most (Some word) (Seconds seconds) = IsCountWord most seconds word.now
 
 -- the option gives one, or is left out
 abbrev pub HasLimit : ℕ → Option (Bor (List ℕ)) → Type 0
@@ -26,7 +26,7 @@ HasLimit most word = (limit : TimeLimit) × GivesLimit most word limit
 abbrev pub GivesLimitOrNone : ℕ → TimeLimit → Option (Bor (List ℕ)) → TimeLimit → Type 0
 GivesLimitOrNone most usual None limit = limit ≡ usual
 GivesLimitOrNone most usual (Some word) Unlimited = word.now ≡ codes "none"
-GivesLimitOrNone most usual (Some word) (Seconds seconds) = IsSecondsWord most seconds word.now
+GivesLimitOrNone most usual (Some word) (Seconds seconds) = IsCountWord most seconds word.now
 
 -- the option gives one, or none, or is left out
 abbrev pub HasLimitOrNone : ℕ → Option (Bor (List ℕ)) → Type 0

@@ -44,6 +44,10 @@ pub enum Fault {
     RoleWithoutCapture,
     /// A summary and an index are asked for.
     SummaryWithJson,
+    /// A JUnit document and an index are asked for.
+    JunitWithJson,
+    /// A JUnit document and a summary are asked for.
+    JunitWithSummary,
     /// The input ends inside a head, or is empty.
     HeadIsCut,
     /// The first line that is damaged in a script of moves, counted from 1.
@@ -56,6 +60,8 @@ pub enum Fault {
     NotAStep(u64, StepDamage),
     /// The first line of an earlier run that tells no verdict, and may not stand beside one, counted from 1.
     NotAVerdict(u64),
+    /// The first line of runs that is none, counted from 1: its name is not UTF-8.
+    NotAName(u64),
     /// The words of the command line are no text.
     NoText,
     /// The words of the command line ask for nothing.
@@ -137,6 +143,14 @@ pub fn tell_fault<F: Write>(alloc: Global, fault: Fault, faults: &mut Watched<F>
             tell(b"--summary takes no --json\n", faults);
             Exit::WrongWords
         }
+        Fault::JunitWithJson => {
+            tell(b"--junit takes no --json\n", faults);
+            Exit::WrongWords
+        }
+        Fault::JunitWithSummary => {
+            tell(b"--junit takes no --summary\n", faults);
+            Exit::WrongWords
+        }
         Fault::HeadIsCut => {
             tell(b"head is cut\n", faults);
             Exit::Damaged
@@ -146,6 +160,7 @@ pub fn tell_fault<F: Write>(alloc: Global, fault: Fault, faults: &mut Watched<F>
         Fault::NotACapture(line) => tell_line(alloc, line, "not a capture", faults),
         Fault::NotAStep(line, damage) => tell_line(alloc, line, damage.words(), faults),
         Fault::NotAVerdict(line) => tell_line(alloc, line, "not a verdict", faults),
+        Fault::NotAName(line) => tell_line(alloc, line, "not a name", faults),
         Fault::NoText => {
             tell(b"error: the arguments are not UTF-8\n", faults);
             Exit::WrongWords

@@ -8,7 +8,8 @@
 //! `cases_of`, `ids_for` and `is_glob`, which say for which cases words stand; `end_run`, `tell_fault` and
 //! `tell_no_cases`, which tell a fault; `step_damage`, what is wrong with a line of a script; `code_notes`, remarks on
 //! its close frames; `read_whole`, which reads an input to its end; `deliver` and `tell`, which write a text;
-//! `limits_given`, `timeout_given`, `run_timeout_given`, `wait_given`, `deadline_given`, `has_unit`; `judgement_of`,
+//! `limits_given`, `timeout_given`, `run_timeout_given`, `wait_given`, `deadline_given`, `count_given`, `has_unit`;
+//! `judgement_of`,
 //! the verdict on a transcript and the lines below it; `exit_of` and `Exit::status`.
 #![tactic(auto)]
 
@@ -24,6 +25,7 @@ mod given_cases;
 mod head;
 mod judge;
 mod limits;
+mod page_texts;
 mod pair;
 mod reading_capture;
 mod reading_lines;
@@ -57,5 +59,5 @@ pub use show::run_show;
 pub use step_damages::{StepDamage, step_damage};
 pub use telling::{deliver, tell};
 pub use time_limit::{
-    TimeLimit, deadline_given, has_unit, run_timeout_given, timeout_given, wait_given,
+    TimeLimit, count_given, deadline_given, has_unit, run_timeout_given, timeout_given, wait_given,
 };

@@ -4,7 +4,7 @@ ghost use Rattle.std.specs.Prelude.{◌≡◌, ◌↔◌, ◌≤◌, IsTrue, Mat
 ghost use Rattle.ws_base.specs.Finding.{Finds};
 ghost use Rattle.wst_commands.specs.TimeLimits.{GivesDeadline, GivesLimit, GivesTimeout, GivesWait, HasDeadline};
 ghost use Rattle.wst_commands.specs.TimeLimits.{GivesLimitOrNone, GivesRunTimeout, HasLimitOrNone, HasRunTimeout};
-ghost use Rattle.wst_commands.specs.TimeLimits.{HasLimit, HasTimeout, HasUnit, HasUnitAt, HasWait, IsSecondsWord};
+ghost use Rattle.wst_commands.specs.TimeLimits.{HasLimit, HasTimeout, HasUnit, HasUnitAt, HasWait, IsCountWord};
 ghost use Rattle.wst_commands.specs.TimeLimits.{IsWithUnit, Reaches, is_limited, is_no_digit, shorter, ten_times};
 
 use std::time::Duration;
@@ -113,7 +113,7 @@ fn limit_given(word: Option<&str>, most: u32) -> Option<TimeLimit>
     let Some(word) = word else {
         return Some(TimeLimit::Unlimited);
     };
-    match seconds_of(word, most) {
+    match count_given(word, most) {
         Some(seconds) => Some(TimeLimit::Seconds(seconds)),
         None => None,
     }
@@ -130,20 +130,20 @@ fn limit_or_none(word: Option<&str>, most: u32, usual: TimeLimit) -> Option<Time
     if word == "none" {
         return Some(TimeLimit::Unlimited);
     }
-    match seconds_of(word, most) {
+    match count_given(word, most) {
         Some(seconds) => Some(TimeLimit::Seconds(seconds)),
         None => None,
     }
 }
 
-/// The seconds that a word gives.
-fn seconds_of(word: &str, most: u32) -> Option<u32>
+/// The number of 1 to the most that a word gives, in decimal digits without leading zeros.
+pub fn count_given(word: &str, most: u32) -> Option<u32>
     requires { most ≤ 86400 }
-    ensures { Finds result (λ seconds. IsSecondsWord most seconds word.now) }
+    ensures { Finds result (λ count. IsCountWord most count word.now) }
 {
-    let seconds = read_u32(word.as_bytes())?;
-    if seconds >= 1 && seconds <= most {
-        Some(seconds)
+    let count = read_u32(word.as_bytes())?;
+    if count >= 1 && count <= most {
+        Some(count)
     } else {
         None
     }

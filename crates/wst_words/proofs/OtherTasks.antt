@@ -11,7 +11,7 @@ use Rattle.wst_words.specs.Arguments.{ArgumentRow, argument, argument_or}
 use Rattle.wst_words.specs.RunOptions.{AsksForRun, run_arguments_without_timeout}
 use Rattle.wst_words.specs.Report.{AsksToReport, report_command}
 use Rattle.wst_words.specs.Send.{AsksToSend, send_command}
-use Rattle.wst_words.specs.declared.arguments.ArgumentKind.TheVariants.{Flag, Number, Style, Words}
+use Rattle.wst_words.specs.declared.arguments.ArgumentKind.TheVariants.{Flag, Number, Style, Word, Words}
 use Rattle.wst_words.specs.Serve.{AsksToServe, serve_command}
 use Rattle.wst_words.specs.Session.{AsksForSession, session_command}
 use Rattle.wst_words.specs.Show.{AsksToShow, show_command}
@@ -164,13 +164,14 @@ run_lacks rows options more none (inr (inr (inr (inr (inr (inr (inr (inr (inr (i
 
 -- what `test`, `send` and `sweep` have beside them
 abbrev sweep_own : List ArgumentRow
-sweep_own = argument_or (codes "steps") Number (codes "2") ∷ argument (codes "all") Flag
-    ∷ argument (codes "progress") Flag ∷ []
+sweep_own = argument (codes "max-fail") Word ∷ argument_or (codes "steps") Number (codes "2")
+    ∷ argument (codes "all") Flag ∷ argument (codes "progress") Flag ∷ []
 
 abbrev test_own : List ArgumentRow
-test_own = argument (codes "capture") Flag ∷ argument (codes "explain") Flag
+test_own = argument (codes "max-fail") Word ∷ argument (codes "capture") Flag ∷ argument (codes "explain") Flag
     ∷ argument_or (codes "data") Style (codes "hex") ∷ argument (codes "progress") Flag
-    ∷ argument (codes "known") Flag ∷ argument (codes "junit") Flag ∷ argument (codes "ids") Words ∷ []
+    ∷ argument (codes "summary") Flag ∷ argument (codes "known") Flag ∷ argument (codes "junit") Flag
+    ∷ argument (codes "ids") Words ∷ []
 
 abbrev send_own : List ArgumentRow
 send_own = argument (codes "capture") Flag ∷ argument_or (codes "data") Style (codes "hex") ∷ []
@@ -180,14 +181,16 @@ test_lacks : (rows : List Row) (options : TestOptions) → LacksOneOf rows test_
 test_lacks rows options lacks asks = run_lacks rows options.run test_own none lacks asks.run
   where
     none : LacksOneOf rows test_own → ⊥
-    none (inl capture) = capture options.capture asks.capture
-    none (inr (inl explain)) = explain options.explain asks.explain
-    none (inr (inr (inl shown))) = shown options.style asks.style
-    none (inr (inr (inr (inl progress)))) = progress options.progress asks.progress
-    none (inr (inr (inr (inr (inl known))))) = known options.known asks.known
-    none (inr (inr (inr (inr (inr (inl junit)))))) = junit options.junit asks.junit
-    none (inr (inr (inr (inr (inr (inr (inl ids))))))) = absurd ids
-    none (inr (inr (inr (inr (inr (inr (inr other))))))) = absurd other
+    none (inl most) = absurd most
+    none (inr (inl capture)) = capture options.capture asks.capture
+    none (inr (inr (inl explain))) = explain options.explain asks.explain
+    none (inr (inr (inr (inl shown)))) = shown options.style asks.style
+    none (inr (inr (inr (inr (inl progress))))) = progress options.progress asks.progress
+    none (inr (inr (inr (inr (inr (inl summary)))))) = summary options.summary asks.summary
+    none (inr (inr (inr (inr (inr (inr (inl known))))))) = known options.known asks.known
+    none (inr (inr (inr (inr (inr (inr (inr (inl junit)))))))) = junit options.junit asks.junit
+    none (inr (inr (inr (inr (inr (inr (inr (inr (inl ids))))))))) = absurd ids
+    none (inr (inr (inr (inr (inr (inr (inr (inr (inr other))))))))) = absurd other
 
 pub no_test : (name : Text) (rows : List Row) → name ≡ codes "test" → LacksOneOf rows test_command.arguments
     → CommandAsksNothing (Some (name, rows))
@@ -251,7 +254,9 @@ report_lacks : (rows : List Row) (options : ReportOptions) → LacksOneOf rows r
     → AsksToReport rows options → ⊥
 report_lacks rows options (inl json) asks = json options.json asks.0
 report_lacks rows options (inr (inl summary)) asks = summary options.summary asks.1
-report_lacks rows options (inr (inr none)) asks = absurd none
+report_lacks rows options (inr (inr (inl junit))) asks = junit options.junit asks.2
+report_lacks rows options (inr (inr (inr (inl date)))) asks = absurd date
+report_lacks rows options (inr (inr (inr (inr none)))) asks = absurd none
 
 pub no_report : (name : Text) (rows : List Row) → name ≡ codes "report" → LacksOneOf rows report_command.arguments
     → CommandAsksNothing (Some (name, rows))
@@ -288,10 +293,11 @@ sweep_lacks : (rows : List Row) (options : SweepOptions) → LacksOneOf rows swe
 sweep_lacks rows options lacks asks = run_lacks rows options.run sweep_own none lacks asks.run
   where
     none : LacksOneOf rows sweep_own → ⊥
-    none (inl steps) = steps options.steps asks.steps
-    none (inr (inl all)) = all options.all asks.all
-    none (inr (inr (inl progress))) = progress options.progress asks.progress
-    none (inr (inr (inr other))) = absurd other
+    none (inl most) = absurd most
+    none (inr (inl steps)) = steps options.steps asks.steps
+    none (inr (inr (inl all))) = all options.all asks.all
+    none (inr (inr (inr (inl progress)))) = progress options.progress asks.progress
+    none (inr (inr (inr (inr other)))) = absurd other
 
 pub no_sweep : (name : Text) (rows : List Row) → name ≡ codes "sweep" → LacksOneOf rows sweep_command.arguments
     → CommandAsksNothing (Some (name, rows))

@@ -357,17 +357,28 @@ pub test_options : (places : Places)
 unfolding on_words
 test_options places = refl
 
--- `wst test --known --junit own` reads an earlier run and writes a document, and these words do neither
+-- `wst test --known --junit own` reads an earlier run and writes a document, and has no summary; these words do none
+-- of these
 abbrev known_words : List Text
 known_words = words (codes "test" ∷ codes "--known" ∷ codes "--junit" ∷ codes "own" ∷ [])
 
 pub test_reports : (places : Places)
-    → map (λ asked. option_map (λ met. one_of (codes "known") met.1 ∷ one_of (codes "junit") met.1 ∷ [])
-    (subcommand_of (wst_app places) asked)) (known_words ∷ test_words ∷ [])
-    ≡ Some (Some (codes "true") ∷ Some (codes "true") ∷ [])
-    ∷ Some (Some (codes "false") ∷ Some (codes "false") ∷ []) ∷ []
+    → map (λ asked. option_map (λ met. one_of (codes "known") met.1 ∷ one_of (codes "junit") met.1
+    ∷ one_of (codes "summary") met.1 ∷ []) (subcommand_of (wst_app places) asked)) (known_words ∷ test_words ∷ [])
+    ≡ Some (Some (codes "true") ∷ Some (codes "true") ∷ Some (codes "false") ∷ [])
+    ∷ Some (Some (codes "false") ∷ Some (codes "false") ∷ Some (codes "false") ∷ []) ∷ []
 unfolding on_words
 test_reports places = refl
+
+-- `wst test --summary own` has one
+abbrev summary_words : List Text
+summary_words = words (codes "test" ∷ codes "--summary" ∷ codes "own" ∷ [])
+
+pub test_summary : (places : Places)
+    → option_map (λ met. one_of (codes "summary") met.1) (subcommand_of (wst_app places) summary_words)
+    ≡ Some (Some (codes "true"))
+unfolding on_words
+test_summary places = refl
 
 -- `wst test --role client tung` tests a client, and words without a role a server
 abbrev client_test_words : List Text

@@ -103,6 +103,16 @@ pub(crate) const BUDGET: Argument = Argument {
     help: "Read up to N bytes a connection",
 };
 
+/// How many failures end a run of cases, which `send` doesn't know.
+pub(crate) const MAX_FAIL: Argument = Argument {
+    name: "max-fail",
+    kind: Word,
+    default: None,
+    value_name: "N",
+    heading: Some("Limits"),
+    help: "Stop after N FAILs or missing connections, 1 to 1000",
+};
+
 pub(crate) const PROTOCOLS: Argument = Argument {
     name: "protocols",
     kind: Word,

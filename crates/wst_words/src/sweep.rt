@@ -10,10 +10,10 @@ ghost use Rattle.wst_words.specs.Sweep.{AsksToSweep, sweep_command};
 use crate::arguments::Argument;
 use crate::arguments::ArgumentKind::{Flag, Number};
 use crate::commands::HelpText;
-use crate::options::{flag_of, number_of};
+use crate::options::{flag_of, number_of, word_of};
 use crate::run_options::{
-    BUDGET, CONNECT, DEADLINE, EXPECT, HEADER, KEY, PROTOCOLS, ROLE, RunOptions, TARGET, TIMEOUT,
-    WAIT, run_options,
+    BUDGET, CONNECT, DEADLINE, EXPECT, HEADER, KEY, MAX_FAIL, PROTOCOLS, ROLE, RunOptions, TARGET,
+    TIMEOUT, WAIT, run_options,
 };
 use clap::ArgMatches;
 use std::alloc::{AllocError, Global};
@@ -23,6 +23,8 @@ use std::alloc::{AllocError, Global};
 pub struct SweepOptions<'a> {
     /// Over which end, and how.
     pub run: RunOptions<'a>,
+    /// Behind so many failures, as a word, the run ends, where that is given.
+    pub max_fail: Option<&'a str>,
     /// Scripts of at most so many steps.
     pub steps: u64,
     /// Those that are LOOSE are told too.
@@ -32,7 +34,7 @@ pub struct SweepOptions<'a> {
 }
 
 /// Its arguments.
-static ARGUMENTS: [Argument; 14] = [
+static ARGUMENTS: [Argument; 15] = [
     ROLE,
     EXPECT,
     KEY,
@@ -44,6 +46,7 @@ static ARGUMENTS: [Argument; 14] = [
     HEADER,
     CONNECT,
     TARGET,
+    MAX_FAIL,
     Argument {
         name: "steps",
         kind: Number,
@@ -104,6 +107,7 @@ fn options_with<'a>(options: &ArgMatches<'a>, run: RunOptions<'a>) -> Option<Swe
     let progress = flag_of(options, "progress")?;
     Some(SweepOptions {
         run,
+        max_fail: word_of(options, "max-fail"),
         steps,
         all,
         progress,

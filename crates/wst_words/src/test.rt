@@ -11,10 +11,10 @@ use crate::arguments::Argument;
 use crate::arguments::ArgumentKind::{Flag, Words};
 use crate::commands::HelpText;
 use crate::judge::EXPLAINED_DATA_HELP;
-use crate::options::{flag_of, style_of, words_of};
+use crate::options::{flag_of, style_of, word_of, words_of};
 use crate::run_options::{
-    BUDGET, CONNECT, DEADLINE, EXPECT, HEADER, KEY, PROTOCOLS, ROLE, RunOptions, TARGET, TIMEOUT,
-    WAIT, run_options,
+    BUDGET, CONNECT, DEADLINE, EXPECT, HEADER, KEY, MAX_FAIL, PROTOCOLS, ROLE, RunOptions, TARGET,
+    TIMEOUT, WAIT, run_options,
 };
 use crate::show::DATA;
 use clap::ArgMatches;
@@ -26,6 +26,8 @@ use ws_frame::DataStyle;
 pub struct TestOptions<'a> {
     /// Over which end, and how.
     pub run: RunOptions<'a>,
+    /// Behind so many failures, as a word, the run ends, where that is given.
+    pub max_fail: Option<&'a str>,
     /// The capture is written in place of the verdict.
     pub capture: bool,
     /// Below a verdict other than PASS it is told why.
@@ -34,6 +36,8 @@ pub struct TestOptions<'a> {
     pub style: DataStyle,
     /// The name of each case is told before it runs.
     pub progress: bool,
+    /// Behind the total the verdicts other than PASS are told, each with its cases.
+    pub summary: bool,
     /// The input has the lines of an earlier run, and what is otherwise is told.
     pub known: bool,
     /// A JUnit document is written in place of lines.
@@ -43,7 +47,7 @@ pub struct TestOptions<'a> {
 }
 
 /// Its arguments.
-static ARGUMENTS: [Argument; 18] = [
+static ARGUMENTS: [Argument; 20] = [
     ROLE,
     EXPECT,
     KEY,
@@ -55,6 +59,7 @@ static ARGUMENTS: [Argument; 18] = [
     HEADER,
     CONNECT,
     TARGET,
+    MAX_FAIL,
     Argument {
         name: "capture",
         kind: Flag,
@@ -83,6 +88,14 @@ static ARGUMENTS: [Argument; 18] = [
         value_name: "",
         heading: Some("Output"),
         help: "Print each ID to stderr before its case runs",
+    },
+    Argument {
+        name: "summary",
+        kind: Flag,
+        default: None,
+        value_name: "",
+        heading: Some("Output"),
+        help: "Print each verdict but PASS with its cases, after the total",
     },
     Argument {
         name: "known",
@@ -149,14 +162,17 @@ fn options_with<'a>(
     let explain = flag_of(options, "explain")?;
     let style = style_of(options, "data")?;
     let progress = flag_of(options, "progress")?;
+    let summary = flag_of(options, "summary")?;
     let known = flag_of(options, "known")?;
     let junit = flag_of(options, "junit")?;
     Some(TestOptions {
         run,
+        max_fail: word_of(options, "max-fail"),
         capture,
         explain,
         style,
         progress,
+        summary,
         known,
         junit,
         ids,

@@ -47,7 +47,7 @@ pub enum Task<'a> {
     /// The verdicts on a server in every short script.
     Sweep(SweepOptions<'a>),
     /// What the lines of runs tell, side by side.
-    Report(ReportOptions),
+    Report(ReportOptions<'a>),
     /// Connections to serve.
     Serve(ServeOptions<'a>),
     /// Connections between clients and a server to tap.

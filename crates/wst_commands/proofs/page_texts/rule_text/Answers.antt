@@ -1,9 +1,9 @@
 -- The name is that of the reason, and the text has the rules of both expectations.
 use Rattle.std.proofs.Common.{rules, ◌≡◌, string_bytes}
 use Rattle.ws_scripts.specs.declared.expectation.Expectation.TheVariants.{Echo, Protocol}
-use Rattle.wst_commands.specs.Report.{rules_by, why_name, with_protocol}
+use Rattle.wst_commands.specs.PageTexts.{rules_by, why_name, with_protocol}
 use Rattle.wst_commands.proofs.RuleTexts.{same_text}
-use Rattle.wst_commands.proofs.report.rule_text.Goals as goal
+use Rattle.wst_commands.proofs.page_texts.rule_text.Goals as goal
 
 pub returns : goal.returns
 returns c =

@@ -3,7 +3,7 @@ use Rattle.std.proofs.Common.{rules, ◌≡◌, ◌∙◌, string_bytes, sym}
 use Rattle.ws_scripts.specs.ScriptTexts.{written_script}
 use Rattle.ws_scripts.specs.Scripts.{CanBeRun}
 use Rattle.wst_commands.proofs.NamedScripts.{same_named}
-use Rattle.wst_commands.proofs.report.script_of.Goals as goal
+use Rattle.wst_commands.proofs.page_texts.script_of.Goals as goal
 
 pub returns : goal.returns
 returns c =

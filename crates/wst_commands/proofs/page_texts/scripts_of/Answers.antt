@@ -4,10 +4,10 @@ use Rattle.std.specs.List.{Contains}
 use Rattle.std.specs.declared.alloc.Global.{Global}
 use Rattle.std.specs.declared.string.String.{String}
 use Rattle.ws_scripts.specs.CaseNames.{case_names}
-use Rattle.wst_commands.specs.Report.{AreScripts, IsScriptOf}
+use Rattle.wst_commands.specs.PageTexts.{AreScripts, IsScriptOf}
 use Rattle.wst_commands.proofs.CaseLemmas.{next_name}
 use Rattle.wst_commands.proofs.NamedScripts.{name_of_case, one_more_script}
-use Rattle.wst_commands.proofs.report.scripts_of.Goals as goal
+use Rattle.wst_commands.proofs.page_texts.scripts_of.Goals as goal
 
 pub script_of-requires : goal.script_of-requires
 script_of-requires c =
