@@ -543,7 +543,8 @@ def known_lines_of_clients():
     client.close()
     assert run.line() == "1.1.3 FAIL Messages (was LOOSE LateEnd)"
     run.is_told("/updateReports")
-    run.ends("1.1.2 FAIL NotRun", "2.2 FAIL NotRun (new)", "1 pass, 0 loose, 3 fail", status=1)
+    counts = "known: 2 same, 2 new, 0 fixed, 0 changed"
+    run.ends("1.1.2 FAIL NotRun", "2.2 FAIL NotRun (new)", "1 pass, 0 loose, 3 fail", counts, status=1)
 
 
 def known_fails_of_clients():
@@ -551,7 +552,20 @@ def known_fails_of_clients():
     right_client(run, "/runCase?case=1")
     assert run.line() == "1.1.1 PASS (was LOOSE Early)"
     run.is_told("/updateReports")
-    run.ends("1.1.2 FAIL NotRun", "1 pass, 0 loose, 1 fail")
+    run.ends("1.1.2 FAIL NotRun", "1 pass, 0 loose, 1 fail", "known: 1 same, 0 new, 0 fixed, 1 changed")
+
+
+def a_summary_of_clients():
+    """Of the last run of a case; those that no client has asked for are in it."""
+    run = Listening("test", "--summary", ADDRESS, "1.1.1", "1.1.2", "1.1.3", "2.2")
+    client = run.client("/runCase?case=2")
+    client.close()
+    assert run.line() == "1.1.2 FAIL Messages"
+    right_client(run, "/runCase?case=1")
+    assert run.line() == "1.1.1 PASS"
+    run.is_told("/updateReports")
+    summary = ("FAIL NotRun 2: 1.1.3, 2.2", "FAIL Messages 1: 1.1.2")
+    run.ends("1.1.3 FAIL NotRun", "2.2 FAIL NotRun", "1 pass, 0 loose, 3 fail", *summary, status=1)
 
 
 def a_list_that_is_none():
@@ -563,7 +577,7 @@ def a_list_that_is_none():
 DOCUMENT = """<?xml version="1.0" encoding="UTF-8"?>
 <testsuites><testsuite name="wst 127.0.0.1:0">
 <testcase classname="wst" name="1.1.1 Empty text message"/>
-<testcase classname="wst" name="1.1.2 Text message of 125 bytes"><failure message="FAIL NotRun">
+<testcase classname="wst" name="1.1.2 Text message of 125 bytes"><failure type="FAIL NotRun" message="FAIL NotRun">
 </failure></testcase>
 </testsuite></testsuites>
 """
@@ -574,7 +588,7 @@ def a_document_of_clients():
     right_client(run, "/runCase?case=1")
     run.is_told("/getCaseStatus?case=1", '{"behavior":"OK"}')
     run.is_told("/updateReports")
-    run.ends(*DOCUMENT.splitlines(), status=1)
+    run.ends(*DOCUMENT.splitlines(), status=1, faults=b"1 pass, 0 loose, 1 fail\n")
 
 
 def a_document_beside_an_earlier_run():
@@ -584,11 +598,12 @@ def a_document_beside_an_earlier_run():
     run.ends(
         '<?xml version="1.0" encoding="UTF-8"?>',
         '<testsuites><testsuite name="wst 127.0.0.1:0">',
-        '<testcase classname="wst" name="1.1.1 Empty text message"><failure message="PASS (new)">',
+        '<testcase classname="wst" name="1.1.1 Empty text message"><failure type="PASS" message="PASS (new)">',
         "</failure></testcase>",
         '<testcase classname="wst" name="1.1.2 Text message of 125 bytes"><skipped message="FAIL NotRun"/></testcase>',
         "</testsuite></testsuites>",
         status=1,
+        faults=b"1 pass, 0 loose, 1 fail\nknown: 1 same, 0 new, 0 fixed, 1 changed\n",
     )
 
 
@@ -661,6 +676,7 @@ TESTS = [
     ports_of_zeros,
     known_lines_of_clients,
     known_fails_of_clients,
+    a_summary_of_clients,
     a_list_that_is_none,
     a_document_of_clients,
     a_document_beside_an_earlier_run,

@@ -6,7 +6,7 @@ import subprocess
 from threading import Thread
 from xml.etree import ElementTree
 
-from server import SECONDS, Client, Tested, free_port, start
+from server import SECONDS, WST, Client, Tested, free_port, start
 from target_lines import FORBIDDEN, asked
 from test_lines import passes
 from wire import CLOSE_BACK, EMPTY_BACK, EMPTY_TEXT, MASKED_CLOSE, RESPONSE
@@ -74,30 +74,35 @@ def test(words, verdicts, known=None, host=None, behind=""):
     return process.returncode, output.decode(), faults.decode(), url
 
 
-def told(known, verdict, line, status):
-    """Beside this verdict that is known of it, the case has this line, and the run this status."""
+def counts(same=0, new=0, fixed=0, changed=0):
+    """The line that tells how many cases stand how beside an earlier run."""
+    return f"known: {same} same, {new} new, {fixed} fixed, {changed} changed\n"
+
+
+def told(known, verdict, line, status, change):
+    """Beside this verdict that is known of it, the case has this line, and the run this status and this count."""
     total = f"{int(verdict == 'PASS')} pass, {int('LOOSE' in verdict)} loose, {int('FAIL' in verdict)} fail\n"
     got = test(["--known"], [verdict], f"1.1.1 {known}\n")[:3]
-    assert got == (status, f"1.1.1 {line}\n{total}", ""), (known, verdict, got)
+    assert got == (status, f"1.1.1 {line}\n{total}{counts(**{change: 1})}", ""), (known, verdict, got)
 
 
 def a_fail_that_is_known_comes_again():
     for verdict in ("FAIL Messages", "FAIL Head Status"):
-        told(verdict, verdict, verdict, 0)
+        told(verdict, verdict, verdict, 0, "same")
 
 
 def a_fail_that_is_not_the_known_one():
-    told("PASS", "FAIL Messages", "FAIL Messages (was PASS)", 1)
-    told("FAIL End", "FAIL Messages", "FAIL Messages (was FAIL End)", 1)
-    told("FAIL Head Accept", "FAIL Head Status", "FAIL Head Status (was FAIL Head Accept)", 1)
-    told("LOOSE OtherCode", "FAIL Messages", "FAIL Messages (was LOOSE OtherCode)", 1)
-    told("FAIL Messages", "LOOSE OtherCode", "LOOSE OtherCode (was FAIL Messages)", 1)
+    told("PASS", "FAIL Messages", "FAIL Messages (was PASS)", 1, "new")
+    told("FAIL End", "FAIL Messages", "FAIL Messages (was FAIL End)", 1, "changed")
+    told("FAIL Head Accept", "FAIL Head Status", "FAIL Head Status (was FAIL Head Accept)", 1, "changed")
+    told("LOOSE OtherCode", "FAIL Messages", "FAIL Messages (was LOOSE OtherCode)", 1, "new")
+    told("FAIL Messages", "LOOSE OtherCode", "LOOSE OtherCode (was FAIL Messages)", 1, "fixed")
 
 
 def a_loose_beside_others():
-    told("LOOSE OtherCode", "LOOSE OtherCode", "LOOSE OtherCode", 0)
-    told("LOOSE LateEnd", "LOOSE OtherCode", "LOOSE OtherCode (was LOOSE LateEnd)", 0)
-    told("PASS", "LOOSE OtherCode", "LOOSE OtherCode (was PASS)", 0)
+    told("LOOSE OtherCode", "LOOSE OtherCode", "LOOSE OtherCode", 0, "same")
+    told("LOOSE LateEnd", "LOOSE OtherCode", "LOOSE OtherCode (was LOOSE LateEnd)", 0, "changed")
+    told("PASS", "LOOSE OtherCode", "LOOSE OtherCode (was PASS)", 0, "changed")
 
 
 def what_is_explained_is_known_next():
@@ -105,19 +110,19 @@ def what_is_explained_is_known_next():
     verdicts = ["FAIL Messages", "FAIL Messages"]
     first = test(["--explain"], verdicts)
     assert first[:3] == (1, f"1.1.1 FAIL Messages\n{BELOW_FAIL}" * 2 + "0 pass, 0 loose, 2 fail\n", ""), first
-    assert test(["--known", "--explain"], verdicts, first[1])[:2] == (0, first[1])
+    assert test(["--known", "--explain"], verdicts, first[1])[:2] == (0, first[1] + counts(same=2))
     other = test(["--known"], ["PASS"], first[1])
-    assert other[:3] == (1, "1.1.1 PASS (was FAIL Messages)\n1 pass, 0 loose, 0 fail\n", ""), other
+    assert other[:3] == (1, "1.1.1 PASS (was FAIL Messages)\n1 pass, 0 loose, 0 fail\n" + counts(fixed=1), ""), other
     again = test(["--known"], ["PASS"], other[1])
-    assert again[:3] == (0, "1.1.1 PASS\n1 pass, 0 loose, 0 fail\n", ""), again
+    assert again[:3] == (0, "1.1.1 PASS\n1 pass, 0 loose, 0 fail\n" + counts(same=1), ""), again
 
 
 def no_connection_that_is_known():
     refused = "no connection: refused\n"
     for known, words, told_of_it in (
-        ("no connection", ["--timeout", "1"], (0, "1.1.1 no connection\n0 pass, 0 loose, 1 fail\n")),
-        ("PASS", ["--timeout", "1"], (1, "1.1.1 no connection (was PASS)\n0 pass, 0 loose, 1 fail\n")),
-        ("FAIL End", ["--timeout", "1"], (1, "1.1.1 no connection (was FAIL End)\n0 pass, 0 loose, 1 fail\n")),
+        ("no connection", ["--timeout", "1"], (0, "1.1.1 no connection\n0 pass, 0 loose, 1 fail\n" + counts(same=1))),
+        ("PASS", ["--timeout", "1"], (1, "1.1.1 no connection (was PASS)\n0 pass, 0 loose, 1 fail\n" + counts(new=1))),
+        ("FAIL End", ["--timeout", "1"], (1, "1.1.1 no connection (was FAIL End)\n0 pass, 0 loose, 1 fail\n" + counts(changed=1))),
         ("no connection", [], (3, "1.1.1 no connection\n")),
     ):
         process = start("test", "--known", *words, f"127.0.0.1:{free_port()}", "1.1.1", stdin=subprocess.PIPE)
@@ -130,7 +135,7 @@ def a_connection_that_is_dropped_in_the_middle():
     closed = "no connection: closed before the answer\n"
     words = ["--known", "--timeout", "5"]
     dropped = test(words, ["PASS", "no connection", "PASS"], "1.1.1 PASS\n")
-    lines = "1.1.1 PASS\n1.1.1 no connection (was PASS)\n1.1.1 PASS\n2 pass, 0 loose, 1 fail\n"
+    lines = "1.1.1 PASS\n1.1.1 no connection (was PASS)\n1.1.1 PASS\n2 pass, 0 loose, 1 fail\n" + counts(same=2, new=1)
     assert dropped[:3] == (1, lines, closed), dropped
     ended = test(words, ["PASS"] + ["no connection"] * 3, dropped[1])
     lines = "1.1.1 PASS\n" + 3 * "1.1.1 no connection (was PASS)\n"
@@ -155,6 +160,9 @@ def element(case):
     """What a reader of JUnit finds of a case: its name, what kind of element is inside, its message and its text."""
     assert case.tag == "testcase" and case.get("classname") == "wst", case
     inside = [(part.tag, part.get("message"), part.text) for part in case]
+    for part in case.iter("failure"):
+        verdict = part.get("message").split(" (")[0]
+        assert part.get("type") == " ".join(verdict.split()[:2]), part.attrib
     return case.get("name"), *inside
 
 
@@ -170,7 +178,7 @@ def read_document(document, target):
 def a_document_of_each_verdict():
     verdicts = ["PASS", "LOOSE OtherCode", "FAIL Messages", "FAIL Head Status"]
     status, document, faults, url = test(["--junit"], verdicts)
-    assert (status, faults) == (1, ""), (status, faults)
+    assert (status, faults) == (1, "1 pass, 1 loose, 2 fail\n"), (status, faults)
     assert read_document(document, url) == [
         (NAME,),
         (NAME, ("system-out", None, f"LOOSE OtherCode\n{BELOW_LOOSE}")),
@@ -182,7 +190,7 @@ def a_document_of_each_verdict():
 def a_document_beside_an_earlier_run():
     verdicts = ["PASS", "LOOSE OtherCode", "FAIL Messages"]
     status, document, faults, url = test(["--junit", "--known"], verdicts, "1.1.1 FAIL Messages\n")
-    assert (status, faults) == (1, ""), (status, faults)
+    assert (status, faults) == (1, "1 pass, 1 loose, 1 fail\n" + counts(same=1, fixed=2)), (status, faults)
     assert read_document(document, url) == [
         (NAME, ("failure", "PASS (was FAIL Messages)", "\n")),
         (NAME, ("failure", "LOOSE OtherCode (was FAIL Messages)", f"\n{BELOW_LOOSE}")),
@@ -198,7 +206,7 @@ def a_target_with_marks_of_xml():
         (None, "a?b=c&d='e'&lt;", "a?b=c&amp;d='e'&amp;lt;"),
     ):
         status, document, faults, url = test(["--junit"], ["PASS"], host=host, behind=behind)
-        assert (status, faults) == (0, ""), (status, faults)
+        assert (status, faults) == (0, "1 pass, 0 loose, 0 fail\n"), (status, faults)
         assert read_document(document, url) == [(NAME,)], document
         assert f"{written}\">\n" in document, document
 
@@ -237,7 +245,26 @@ def a_document_as_it_comes():
     passes(server)
     assert server.line() == element
     passes(server)
-    server.ends(f"{element}\n</testsuite></testsuites>\n")
+    server.ends(f"{element}\n</testsuite></testsuites>\n", faults=b"2 pass, 0 loose, 0 fail\n")
+
+
+def a_summary_of_each_verdict():
+    """Of the last verdict of a case, behind the total and before the counts; the report of its lines has the same."""
+    others = ["LOOSE OtherCode", "PASS", "FAIL Messages"]
+    for verdicts, lines in ((["PASS", "PASS"], ""), (others[:2], ""), (others, "FAIL Messages 1: 1.1.1\n")):
+        status, output, faults, url = test(["--summary", "--known"], verdicts, "1.1.1 FAIL Messages\n")
+        told = "".join(line + "\n" for line in output.splitlines()[len(verdicts) + 1:])
+        fails = verdicts.count("FAIL Messages")
+        assert (told, faults) == (lines + counts(same=fails, fixed=len(verdicts) - fails), ""), (verdicts, output)
+        report = subprocess.run([WST, "report", "--summary"], input=output, capture_output=True, text=True, check=True)
+        assert report.stdout.splitlines()[:-1] == lines.splitlines(), (output, report.stdout)
+
+
+def a_summary_beside_a_document():
+    """All but the document goes to the fault output."""
+    status, document, faults, url = test(["--junit", "--summary"], ["FAIL Head Status"])
+    assert (status, faults) == (1, "0 pass, 0 loose, 1 fail\nFAIL Head Status 1: 1.1.1\n"), (status, faults)
+    assert len(read_document(document, url)) == 1, document
 
 
 def a_document_goes_on_behind_two_misses():
@@ -267,6 +294,8 @@ TESTS = [
     a_target_with_marks_of_xml,
     a_document_whose_run_ends_early,
     a_document_beside_an_earlier_run_that_ends_early,
+    a_summary_of_each_verdict,
+    a_summary_beside_a_document,
     a_document_as_it_comes,
     a_document_goes_on_behind_two_misses,
     a_document_that_can_not_be_written,

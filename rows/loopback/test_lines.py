@@ -139,7 +139,7 @@ def no_listener():
 
 def no_address_to_test():
     for address in NO_ADDRESSES:
-        told = (3, b"1.1.1 no connection\n", b"no connection: no such host\n  the name is unknown, or it has no port up to 65535: localhost:9001\n")
+        told = (3, b"1.1.1 no connection\n", b"no connection: no such host\n  HOST:PORT, up to 65535, or with a path ws://localhost:9001/chat\n")
         assert run("test", address, "1.1.1") == told, address
 
 

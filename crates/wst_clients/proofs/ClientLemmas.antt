@@ -1,7 +1,7 @@
 -- Connections of clients under test, one after the other: how the cases stand, the lines, the notes and the count.
-use Rattle.std.proofs.Common.{◌≡◌, ◌∙◌, ◌+◌, ◌<◌, ◌^◌, ◌≤◌, ◌||◌, ℕ, Bool, true, false, not, List, [], ◌∷◌, ◌++◌, Option}
+use Rattle.std.proofs.Common.{◌≡◌, ◌∙◌, ◌+◌, ◌<◌, ◌≤◌, ◌||◌, ℕ, Bool, true, false, not, List, [], ◌∷◌, ◌++◌, Option}
 use Rattle.std.proofs.Common.{Some, None, Result, Ok, Err, ap, arith, refl, sym, subst, inl, inr, append-nil}
-use Rattle.std.proofs.Common.{IsErrAnd, append_assoc, filter, length, drop, take, get_or, ◌-◌}
+use Rattle.std.proofs.Common.{IsErrAnd, append_assoc, filter, if◌then◌else◌, length, map, take, get_or, ◌-◌}
 use Rattle.std.proofs.KnownBytes.{Appends-nil, Appends-trans}
 use Rattle.std.proofs.lemmas.Grind.{flat_map-append}
 use Rattle.std.proofs.lemmas.List.{length-append, length-map, length-replicate, length-set, map-append}
@@ -10,7 +10,7 @@ use Rattle.std.proofs.lemmas.List.Filters.{length-filter_both}
 use Rattle.std.proofs.lemmas.List.Folds.{list_any-append}
 use Rattle.std.specs.Io.KnownBytes.{Appends, Keeps}
 use Rattle.std.specs.List.{list_any}
-use Rattle.ws_frame.specs.Devices.{Device, HasBegun, HasWritten}
+use Rattle.ws_frame.specs.Devices.{Device}
 use Rattle.ws_frame.specs.Watching.{AppendsFront}
 use Rattle.ws_paths.specs.Standings.{StandingValue, after_connection, none_run}
 use Rattle.ws_paths.specs.declared.behavior.Behavior.{Behavior}
@@ -22,31 +22,40 @@ use Rattle.ws_paths.specs.declared.purpose.Purpose.TheVariants.{RunCase, UpdateR
 use Rattle.ws_scripts.specs.declared.script.Case.{Case}
 use Rattle.wst_commands.specs.Devices.{Delivers}
 use Rattle.wst_commands.specs.declared.exit.Exit.{Exit}
-use Rattle.wst_commands.specs.declared.exit.Exit.TheVariants.{Done, Failed}
+use Rattle.wst_commands.specs.declared.exit.Exit.TheVariants.{Failed}
 use Rattle.wst_commands.specs.declared.fault.Fault.{Fault}
 use Rattle.wst_commands.specs.declared.fault.Fault.TheVariants.{NoMemory}
-use Rattle.wst_clients.specs.ClientTests.{AddsLastLines, AddsNotRun, EndsVisits, FitsCases, HasVisited, HaveAllCome}
-use Rattle.wst_clients.specs.ClientTests.{HaveCome, LacksMemoryVisiting, RunsVisits, StopsAtVisit, StopsVisiting}
-use Rattle.wst_clients.specs.ClientTests.{TestsAll, TestsClients}
+use Rattle.wst_clients.specs.ClientTests.{AddsLastLines, AddsNotRun, EndsVisits, FitsCases, HasVisited}
+use Rattle.wst_clients.specs.ClientTests.{HaveCome, LacksMemoryVisiting, RunsVisits, StopsVisiting}
+use Rattle.wst_clients.specs.ClientTests.{EndsEnough, TestsClients, WritesEnough}
+use Rattle.wst_clients.specs.ClientTests.{is_enough_with}
+use Rattle.wst_testing.specs.Failures.{is_enough}
 use Rattle.wst_testing.specs.Notes.{TellsEach}
-use Rattle.wst_testing.specs.Outcomes.{is_fail, is_loose, is_pass}
-use Rattle.wst_clients.specs.ClientLines.{fails_for, line_for, lines_for, score_for, score_with_all, total_for}
+use Rattle.wst_testing.specs.Outcomes.{count_in, is_fail, is_loose, is_pass}
+use Rattle.ws_reports.specs.Kept.{kept_of}
+use Rattle.ws_reports.specs.KnownCounts.{known_counts}
+use Rattle.ws_reports.proofs.CountLemmas.{counts_more, kept_more}
+use Rattle.wst_clients.specs.ClientLines.{behind_for, beside_for, change_for, end_for, fails_for, is_failure_for, line_for}
+use Rattle.wst_clients.specs.ClientLines.{lines_for, score_for, score_of_case, score_with_all, verdict_for}
 use Rattle.wst_testing.specs.Reporting.{exit_of_report, no_score, score_by}
 use Rattle.wst_testing.specs.Testing.{outcomes_in}
-use Rattle.wst_clients.specs.VisitOutcomes.{AreVisits, HasRoomToCount, after_outcome, behavior_for, ends_with_outcome}
+use Rattle.wst_clients.specs.VisitOutcomes.{AreVisits, after_outcome, behavior_for, ends_with_outcome}
 use Rattle.wst_clients.specs.VisitOutcomes.{not_run, not_run_if, notes_of_visits, outcome_notes}
 use Rattle.wst_clients.specs.VisitOutcomes.{test_of, tests_in, tests_of}
 use Rattle.wst_clients.specs.Visits.{AreSomeNotes, case_for}
 use Rattle.wst_testing.specs.declared.outcome.Outcome.{Outcome}
+use Rattle.wst_testing.specs.declared.outcome.Outcome.TheVariants.{NotRun}
 use Rattle.wst_testing.specs.declared.outcome.Score.{Score}
 use Rattle.wst_clients.specs.declared.testing_clients.VisitsEnd.{VisitsEnd}
-use Rattle.wst_clients.specs.declared.testing_clients.VisitsEnd.TheVariants.{Ended, Stopped}
+use Rattle.wst_clients.specs.declared.testing_clients.VisitsEnd.TheVariants.{Ended, Enough, Stopped}
 use Rattle.wst_clients.specs.declared.visit_outcome.VisitOutcome.{VisitOutcome}
 use Rattle.wst_clients.specs.declared.visit_outcome.VisitOutcome.TheVariants.{Lost, Ran, Refused, Told}
 use Rattle.wst_clients.specs.declared.visiting.Telling.{Telling}
 use Rattle.wst_clients.specs.declared.visiting.VisitRules.{VisitRules}
 use Rattle.wst_testing.proofs.NoteLemmas.{each_on, each_then}
-use Rattle.wst_testing.proofs.TestLemmas.{delivers_after, or_none, tally_of_more, then_begun}
+use Rattle.wst_testing.proofs.TestLemmas.{count_then, delivers_after, kinds_are_all, or_none, tally_of_more}
+use Rattle.wst_testing.proofs.TestLemmas.{then_begun}
+use Rattle.wst_testing.proofs.ReporterLemmas.{none_enough}
 
 -- ---- one connection more
 
@@ -85,13 +94,18 @@ notes_more rules visits next =
 
 -- what a run comes to with one test more
 score_then : (telling : Telling) (tests : List (Case × Outcome)) (test : Case × Outcome)
-    → score_by (score_for telling tests) test.1 (fails_for telling test) ≡ score_for telling (tests ++ test ∷ [])
+    → score_by (score_for telling tests) test.1 (score_of_case telling test) ≡ score_for telling (tests ++ test ∷ [])
 score_then telling tests test =
     let tally = tally_of_more tests test.0 test.1 in
     let one : list_any (fails_for telling) (test ∷ []) ≡ fails_for telling test = or_none (fails_for telling test) in
     let fails = sym (list_any-append (fails_for telling) tests (test ∷ [])
     ∙ ap (λ (b : Bool). list_any (fails_for telling) tests || b) one) in
-    λ i. record { tally = tally i; is_failed = fails i }
+    let failures = count_then (is_failure_for telling) tests test in
+    let known = counts_more (map (change_for telling) tests) (change_for telling test)
+    ∙ ap known_counts (sym (map-append (change_for telling) tests (test ∷ []))) in
+    let kept = kept_more (map (verdict_for telling) tests) (verdict_for telling test)
+    ∙ ap kept_of (sym (map-append (verdict_for telling) tests (test ∷ []))) in
+    λ i. record { tally = tally i; is_failed = fails i; failures = failures i; known = known i; kept = kept i }
 
 -- with more
 pub score_all_more : (telling : Telling) (tests more : List (Case × Outcome))
@@ -165,7 +179,7 @@ pub visited_none : (Comes : StandingValue → VisitOutcome → Type 0) (rules : 
     → Keeps faults.old faults.new → HasVisitedSo Comes rules 0 standing score held held faults
 visited_none Comes rules standing score held faults is none kept = record {
   visits = [];
-  have_come = sym is;
+  have_come = (sym is, none_enough rules.max_fail);
   few = omega arith;
   counted = none;
   written = Appends-nil held;
@@ -190,21 +204,33 @@ noted_more rules visits next f g a b c before still told =
     (each_then (notes_of_visits rules visits) (outcome_notes rules next) g a b c
     (each_on (notes_of_visits rules visits) f g a b still before) told)
 
+-- whether there are enough failures with it
+enough_then : (rules : VisitRules) (visits : List VisitOutcome) (next : VisitOutcome) (score counted : Score) (b : Bool)
+    → score ≡ score_for rules.telling (tests_of rules visits)
+    → counted ≡ score_with_all rules.telling score (tests_in rules next)
+    → is_enough rules.max_fail counted.failures ≡ b → is_enough_with rules (visits ++ next ∷ []) ≡ b
+enough_then rules visits next score counted b was is enough =
+    subst (λ (s : Score). is_enough rules.max_fail s.failures ≡ b) (counted_more rules visits next score counted was is)
+    enough
+
 -- one that doesn't end the run
 pub visited_more : (Comes : StandingValue → VisitOutcome → Type 0) (rules : VisitRules) (n : ℕ) (standing after : StandingValue) (next : VisitOutcome)
     (score counted : Score) (old mid new : Option (List ℕ)) (f g : Bool) (a b c : Option (List ℕ))
     → HasVisitedSo Comes rules n standing score old mid (record { failed = f; old = a; new = b })
     → VisitsNext Comes rules standing next f g b c → ends_with_outcome (length rules.cases.now) next ≡ false
-    → counted ≡ score_with_all rules.telling score (tests_in rules next)
+    → is_enough rules.max_fail counted.failures ≡ false → counted ≡ score_with_all rules.telling score (tests_in rules next)
     → Appends mid new (lines_for rules.telling (tests_in rules next))
     → after ≡ after_outcome standing next
     → HasVisitedSo Comes rules (n + 1) after counted old new (record { failed = g; old = a; new = c })
-visited_more Comes rules n standing after next score counted old mid new f g a b c so is goes count line stands = record {
+visited_more Comes rules n standing after next score counted old mid new f g a b c so is goes few count line stands = record {
   visits = so.visits ++ next ∷ [];
-  have_come = subst
-      (λ (s : StandingValue). AreVisits Comes rules (none_run (length rules.cases.now)) (so.visits ++ next ∷ []) s)
-      (sym stands)
-      (visits_more Comes rules (none_run (length rules.cases.now)) so.visits standing next so.have_come is.comes goes);
+  have_come = (
+    subst
+        (λ (s : StandingValue). AreVisits Comes rules (none_run (length rules.cases.now)) (so.visits ++ next ∷ []) s)
+        (sym stands)
+        (visits_more Comes rules (none_run (length rules.cases.now)) so.visits standing next so.have_come.0 is.comes goes),
+    enough_then rules so.visits next score counted false so.counted count few,
+  );
   few = few_more rules so.visits next n so.few;
   counted = counted_more rules so.visits next score counted so.counted count;
   written = subst (λ (l : List ℕ). Appends old new l) (lines_more rules so.visits next)
@@ -219,12 +245,12 @@ pub visits_end : (MayBeLate : Type 0) (Comes : StandingValue → VisitOutcome �
     (score counted : Score) (old mid new : Option (List ℕ)) (failed f g : Bool) (a b c : Option (List ℕ))
     → HasVisitedSo Comes rules n standing score old mid (record { failed = f; old = a; new = b })
     → VisitsNext Comes rules standing next f g b c → ends_with_outcome (length rules.cases.now) next ≡ true
-    → counted ≡ score_with_all rules.telling score (tests_in rules next)
+    → is_enough rules.max_fail counted.failures ≡ false → counted ≡ score_with_all rules.telling score (tests_in rules next)
     → Appends mid new (lines_for rules.telling (tests_in rules next)) → failed ≡ false
     → after ≡ after_outcome standing next
     → EndsVisits MayBeLate Comes rules after counted (record { failed = failed; old = old; new = new })
     (record { failed = g; old = a; new = c })
-visits_end MayBeLate Comes rules n standing after next score counted old mid new failed f g a b c so is ends count line works stands = record {
+visits_end MayBeLate Comes rules n standing after next score counted old mid new failed f g a b c so is ends few count line works stands = record {
   visits = so.visits ++ next ∷ [];
   have_all = inl (record {
     before = so.visits;
@@ -234,8 +260,38 @@ visits_end MayBeLate Comes rules n standing after next score counted old mid new
     comes = is.comes;
     ends = ends;
     all = refl;
+    goes_on = enough_then rules so.visits next score counted false so.counted count few;
     stands = stands;
   });
+  counted = counted_more rules so.visits next score counted so.counted count;
+  told = (
+    subst (λ (l : List ℕ). Appends old new l) (lines_more rules so.visits next)
+        (Appends-trans old mid new (lines_for rules.telling (tests_of rules so.visits)) (lines_for rules.telling (tests_in rules next))
+        so.written line),
+    works,
+  );
+  noted = noted_more rules so.visits next f g a b c so.noted is.still is.noted;
+}
+
+-- one with which there are enough failures
+pub visits_enough : (Comes : StandingValue → VisitOutcome → Type 0) (rules : VisitRules) (n : ℕ) (standing : StandingValue)
+    (next : VisitOutcome) (score counted : Score) (old mid new : Option (List ℕ)) (failed f g : Bool)
+    (a b c : Option (List ℕ))
+    → HasVisitedSo Comes rules n standing score old mid (record { failed = f; old = a; new = b })
+    → VisitsNext Comes rules standing next f g b c → is_enough rules.max_fail counted.failures ≡ true
+    → counted ≡ score_with_all rules.telling score (tests_in rules next)
+    → Appends mid new (lines_for rules.telling (tests_in rules next)) → failed ≡ false
+    → EndsEnough Comes rules counted (record { failed = failed; old = old; new = new })
+    (record { failed = g; old = a; new = c })
+visits_enough Comes rules n standing next score counted old mid new failed f g a b c so is enough count line works = record {
+  before = so.visits;
+  earlier = standing;
+  have_come = so.have_come;
+  last = next;
+  comes = is.comes;
+  visits = so.visits ++ next ∷ [];
+  all = refl;
+  enough = enough_then rules so.visits next score counted true so.counted count enough;
   counted = counted_more rules so.visits next score counted so.counted count;
   told = (
     subst (λ (l : List ℕ). Appends old new l) (lines_more rules so.visits next)
@@ -338,7 +394,7 @@ pub tests_stop : (MayBeLate : Type 0) (Comes : StandingValue → VisitOutcome �
     (output faults : Device) → RunsVisits MayBeLate Comes rules stopped output faults → stopped ≡ Ok Stopped
     → TestsClients MayBeLate Comes rules (Ok Failed) output faults
 tests_stop MayBeLate Comes rules stopped output faults runs is =
-    inr (refl, subst (λ (e : Result VisitsEnd Fault). RunsVisits MayBeLate Comes rules e output faults) is runs)
+    inr (inl (refl, subst (λ (e : Result VisitsEnd Fault). RunsVisits MayBeLate Comes rules e output faults) is runs))
 
 pub tests_lack : (MayBeLate : Type 0) (Comes : StandingValue → VisitOutcome → Type 0) (rules : VisitRules) (why : Fault)
     (stopped : Result VisitsEnd Fault) (ended : Result Exit Fault) (output faults : Device)
@@ -357,16 +413,19 @@ within p xs = omega (arith, length-filter_both p (λ x. not (p x)) (λ x. refl) 
 -- there is room for so many more
 pub visited_bound : (Comes : StandingValue → VisitOutcome → Type 0) (rules : VisitRules) (n : ℕ) (standing : StandingValue) (score : Score)
     (old new : Option (List ℕ)) (faults : Device) → HasVisitedSo Comes rules n standing score old new faults
-    → (score.tally.pass ≤ n) × (score.tally.loose ≤ n) × (score.tally.fail ≤ n)
+    → (score.tally.pass ≤ n) × (score.tally.loose ≤ n) × (score.tally.fail ≤ n) × (score.failures ≤ n)
 visited_bound Comes rules n standing score old new faults so =
     let outcomes = outcomes_in (tests_of rules so.visits) in
     let long = length-map (tests_of rules so.visits) (λ (t : Case × Outcome). t.1) in
     let pass : score.tally.pass ≡ length (filter is_pass outcomes) = ap (λ (s : Score). s.tally.pass) so.counted in
     let loose : score.tally.loose ≡ length (filter is_loose outcomes) = ap (λ (s : Score). s.tally.loose) so.counted in
-    let fail : score.tally.fail ≡ length (filter is_fail outcomes) = ap (λ (s : Score). s.tally.fail) so.counted in (
+    let fail : score.tally.fail ≡ length (filter is_fail outcomes) = ap (λ (s : Score). s.tally.fail) so.counted in
+    let failures : score.failures ≡ length (filter (is_failure_for rules.telling) (tests_of rules so.visits)) =
+    ap (λ (s : Score). s.failures) so.counted in (
       omega (arith, so.few, long, pass, within is_pass outcomes),
       omega (arith, so.few, long, loose, within is_loose outcomes),
       omega (arith, so.few, long, fail, within is_fail outcomes),
+      omega (arith, so.few, failures, within (is_failure_for rules.telling) (tests_of rules so.visits)),
     )
 
 -- and for the last lines, where the run ends
@@ -384,13 +443,29 @@ visits_fit Comes rules n standing after next score counted old new faults so cou
     let long = length-map tests (λ (t : Case × Outcome). t.1) in
     let pass : counted.tally.pass ≡ length (filter is_pass outcomes) = ap (λ (s : Score). s.tally.pass) all in
     let loose : counted.tally.loose ≡ length (filter is_loose outcomes) = ap (λ (s : Score). s.tally.loose) all in
-    let fail : counted.tally.fail ≡ length (filter is_fail outcomes) = ap (λ (s : Score). s.tally.fail) all in (
+    let fail : counted.tally.fail ≡ length (filter is_fail outcomes) = ap (λ (s : Score). s.tally.fail) all in
+    let failures : counted.failures ≡ length (filter (is_failure_for rules.telling) tests) =
+    ap (λ (s : Score). s.failures) all in (
       ap (λ (s : StandingValue). length s.behaviors) stands ∙ after_keeps standing next ∙ so.kept,
       fits,
       omega (arith, few, long, pass, within is_pass outcomes, bound),
       omega (arith, few, long, loose, within is_loose outcomes, bound),
       omega (arith, few, long, fail, within is_fail outcomes, bound),
+      omega (arith, few, failures, within (is_failure_for rules.telling) tests, bound),
     )
+
+-- and for the count of enough
+pub enough_fits : (Comes : StandingValue → VisitOutcome → Type 0) (rules : VisitRules) (n : ℕ) (standing : StandingValue)
+    (next : VisitOutcome) (score counted : Score) (old new : Option (List ℕ)) (faults : Device)
+    → HasVisitedSo Comes rules n standing score old new faults
+    → counted ≡ score_with_all rules.telling score (tests_in rules next)
+    → n < 4611686018427387904 → FitsCases (length rules.cases.now) (Enough counted)
+enough_fits Comes rules n standing next score counted old new faults so count bound =
+    let tests = tests_of rules (so.visits ++ next ∷ []) in
+    let all : count_in counted.tally ≡ length tests =
+    ap (λ (s : Score). count_in s.tally) (counted_more rules so.visits next score counted so.counted count)
+    ∙ kinds_are_all (outcomes_in tests) ∙ length-map tests (λ (t : Case × Outcome). t.1) in
+    omega (arith, few_more rules so.visits next n so.few, all, bound)
 
 -- also where none comes in time
 pub late_fits : (Comes : StandingValue → VisitOutcome → Type 0) (rules : VisitRules) (n : ℕ) (standing : StandingValue)
@@ -398,8 +473,14 @@ pub late_fits : (Comes : StandingValue → VisitOutcome → Type 0) (rules : Vis
     → HasVisitedSo Comes rules n standing score old new faults → n ≤ 4611686018427387904
     → length rules.cases.now < 4294967296 → FitsCases (length rules.cases.now) (Ended standing score)
 late_fits Comes rules n standing score old new faults so bound fits =
-    let (pass, loose, fail) = visited_bound Comes rules n standing score old new faults so in
-    (so.kept, fits, omega (arith, pass, bound), omega (arith, loose, bound), omega (arith, fail, bound))
+    let (pass, loose, fail, failures) = visited_bound Comes rules n standing score old new faults so in (
+      so.kept,
+      fits,
+      omega (arith, pass, bound),
+      omega (arith, loose, bound),
+      omega (arith, fail, bound),
+      omega (arith, failures, bound),
+    )
 
 -- ---- the last lines
 
@@ -421,7 +502,7 @@ pub score_all_append : (telling : Telling) (score : Score) (first second : List 
     ≡ score_with_all telling score (first ++ second)
 score_all_append telling score [] second = refl
 score_all_append telling score (test ∷ first) second =
-    score_all_append telling (score_by score test.1 (fails_for telling test)) first second
+    score_all_append telling (score_by score test.1 (score_of_case telling test)) first second
 
 -- so of the next case
 pub not_run_step : (cases : List Case) (behaviors : List Behavior) (n : ℕ) (case : Case) (behavior : Behavior)
@@ -463,26 +544,49 @@ adds_step telling cases behaviors n case behavior score counted next bytes more 
           ∙ ap (λ (l : List (Case × Outcome)). score_with_all telling score l) (sym all),
     )
 
+one_at_most : (b : Bool) (n : ℕ) → (if b then n + 1 else n) ≤ n + 1
+one_at_most true n = omega arith
+one_at_most false n = omega arith
+
 -- of the kinds only the Fails grow, by one at most
 pub counts_step : (telling : Telling) (counted next : Score) (case : Case) (behavior : Behavior)
     → next ≡ score_with_all telling counted (not_run_if case behavior)
     → (next.tally.pass ≡ counted.tally.pass) × (next.tally.loose ≡ counted.tally.loose)
-    × (next.tally.fail ≤ counted.tally.fail + 1)
+    × (next.tally.fail ≤ counted.tally.fail + 1) × (next.failures ≤ counted.failures + 1)
 counts_step telling counted next case Unimplemented is =
-    let fail : next.tally.fail ≡ counted.tally.fail + 1 = ap (λ (s : Score). s.tally.fail) is in (
+    let fail : next.tally.fail ≡ counted.tally.fail + 1 = ap (λ (s : Score). s.tally.fail) is in
+    let counts = is_failure_for telling (case, NotRun) in
+    let failures : next.failures ≡ (if counts then counted.failures + 1 else counted.failures) =
+    ap (λ (s : Score). s.failures) is in (
       ap (λ (s : Score). s.tally.pass) is,
       ap (λ (s : Score). s.tally.loose) is,
       omega (arith, fail),
+      omega (arith, failures, one_at_most counts counted.failures),
     )
 counts_step telling counted next case behavior.Ok is =
     let fail : next.tally.fail ≡ counted.tally.fail = ap (λ (s : Score). s.tally.fail) is in
-    (ap (λ (s : Score). s.tally.pass) is, ap (λ (s : Score). s.tally.loose) is, omega (arith, fail))
+    let failures : next.failures ≡ counted.failures = ap (λ (s : Score). s.failures) is in (
+      ap (λ (s : Score). s.tally.pass) is,
+      ap (λ (s : Score). s.tally.loose) is,
+      omega (arith, fail),
+      omega (arith, failures),
+    )
 counts_step telling counted next case behavior.NonStrict is =
     let fail : next.tally.fail ≡ counted.tally.fail = ap (λ (s : Score). s.tally.fail) is in
-    (ap (λ (s : Score). s.tally.pass) is, ap (λ (s : Score). s.tally.loose) is, omega (arith, fail))
+    let failures : next.failures ≡ counted.failures = ap (λ (s : Score). s.failures) is in (
+      ap (λ (s : Score). s.tally.pass) is,
+      ap (λ (s : Score). s.tally.loose) is,
+      omega (arith, fail),
+      omega (arith, failures),
+    )
 counts_step telling counted next case behavior.Failed is =
     let fail : next.tally.fail ≡ counted.tally.fail = ap (λ (s : Score). s.tally.fail) is in
-    (ap (λ (s : Score). s.tally.pass) is, ap (λ (s : Score). s.tally.loose) is, omega (arith, fail))
+    let failures : next.failures ≡ counted.failures = ap (λ (s : Score). s.failures) is in (
+      ap (λ (s : Score). s.tally.pass) is,
+      ap (λ (s : Score). s.tally.loose) is,
+      omega (arith, fail),
+      omega (arith, failures),
+    )
 
 pub not_run_few : (case : Case) (behavior : Behavior) → length (not_run_if case behavior) ≤ 1
 not_run_few case Unimplemented = omega arith
@@ -490,27 +594,104 @@ not_run_few case behavior.Ok = omega arith
 not_run_few case behavior.NonStrict = omega arith
 not_run_few case behavior.Failed = omega arith
 
--- the whole run: what was written of the connections, and then the last lines
-pub tests_all : (MayBeLate : Type 0) (Comes : StandingValue → VisitOutcome → Type 0) (rules : VisitRules) (standing : StandingValue) (score counted : Score) (bytes : List ℕ)
-    (old mid new : Option (List ℕ)) (failed works : Bool) (exit : Exit) (faults : Device)
-    → EndsVisits MayBeLate Comes rules standing score (record { failed = works; old = old; new = mid }) faults
-    → AddsLastLines rules standing.behaviors score bytes counted
+-- Behind enough failures: what was written of the connections, and then what stands behind them, or memory ran out for
+-- that: `Same` and `Untold` say that nothing was written then, and nothing told. `f` and `g` say whether the fault output
+-- had failed before what was told last and since, which held `a`, then `b`, then `c`.
+pub tests_enough : (MayBeLate : Type 0) (Comes : StandingValue → VisitOutcome → Type 0) (rules : VisitRules) (score : Score)
+    (old mid new : Option (List ℕ)) (failed works f g : Bool) (a b c : Option (List ℕ)) (Same Untold : Type 0)
+    (ended : Result Exit Fault)
+    → EndsEnough Comes rules score (record { failed = works; old = old; new = mid })
+    (record { failed = f; old = a; new = b })
+    → (Same → (works ≡ failed) × (mid ≡ new)) → (Untold → (f ≡ g) × (b ≡ c)) → (f ≡ true → g ≡ true)
+    → WritesEnough rules.telling score ended Same Untold (record { failed = failed; old = mid; new = new })
+    (record { failed = g; old = b; new = c })
+    → TestsClients MayBeLate Comes rules ended (record { failed = failed; old = old; new = new })
+    (record { failed = g; old = a; new = c })
+tests_enough MayBeLate Comes rules score old mid new failed works f g a b c Same Untold (Ok exit) so same untold still
+    (told, beside) =
+    let tests = tests_of rules so.visits in
+    let all : count_in score.tally ≡ length tests =
+    ap (λ (s : Score). count_in s.tally) so.counted ∙ kinds_are_all (outcomes_in tests)
+    ∙ length-map tests (λ (t : Case × Outcome). t.1) in
+    let behind = behind_for rules.telling (count_in score.tally) score in
+    let whole = delivers_after old mid new failed (lines_for rules.telling tests) (end_for rules.telling behind)
+    (exit_of_report score.is_failed) exit so.told.0 told in
+    let noted = each_then (notes_of_visits rules so.visits) (beside_for rules.telling behind) g a b c
+    (each_on (notes_of_visits rules so.visits) f g a b still so.noted) beside in
+    inr (inr (record {
+      before = so.before;
+      earlier = so.earlier;
+      have_come = so.have_come;
+      last = so.last;
+      comes = so.comes;
+      visits = so.visits;
+      all = so.all;
+      enough = so.enough;
+      tests = tests;
+      are_tests = refl;
+      told = subst
+          (λ (s : Score). Delivers (exit_of_report s.is_failed) (lines_for rules.telling tests
+          ++ end_for rules.telling (behind_for rules.telling (length tests) s)) exit
+          (record { failed = failed; old = old; new = new })) so.counted
+          (subst (λ (n : ℕ). Delivers (exit_of_report score.is_failed) (lines_for rules.telling tests
+          ++ end_for rules.telling (behind_for rules.telling n score)) exit
+          (record { failed = failed; old = old; new = new })) all whole);
+      noted = subst
+          (λ (s : Score). TellsEach (notes_of_visits rules so.visits
+          ++ beside_for rules.telling (behind_for rules.telling (length tests) s))
+          (record { failed = g; old = a; new = c })) so.counted
+          (subst (λ (n : ℕ). TellsEach (notes_of_visits rules so.visits
+          ++ beside_for rules.telling (behind_for rules.telling n score)) (record { failed = g; old = a; new = c })) all
+          noted);
+    }))
+tests_enough MayBeLate Comes rules score old mid new failed works f g a b c Same Untold (Err fault) so same untold still
+    (is, stays, quiet) =
+    let (as_before, held) = same stays in
+    let (silent, heard) = untold quiet in
+    let Ends = λ (w v : Bool) (x y : Option (List ℕ)). EndsEnough Comes rules score (record { failed = w; old = old; new = x })
+    (record { failed = v; old = a; new = y }) in (
+      is,
+      inr (inr (
+        score,
+        subst (λ (y : Option (List ℕ)). Ends failed g new y) heard (subst (λ (v : Bool). Ends failed v new b) silent
+            (subst (λ (x : Option (List ℕ)). Ends failed f x b) held (subst (λ (w : Bool). Ends w f mid b) as_before so))),
+      )),
+    )
+
+-- that they have ended the run, as a run answers it
+pub visits_ended_enough : (MayBeLate : Type 0) (Comes : StandingValue → VisitOutcome → Type 0) (rules : VisitRules)
+    (ended : Result VisitsEnd Fault) (score : Score) (output faults : Device) → ended ≡ Ok (Enough score)
+    → RunsVisits MayBeLate Comes rules ended output faults → EndsEnough Comes rules score output faults
+visits_ended_enough MayBeLate Comes rules ended score output faults is runs =
+    subst (λ (e : Result VisitsEnd Fault). RunsVisits MayBeLate Comes rules e output faults) is runs
+
+-- The whole run: what was written of the connections, and then the last lines. `f` and `g` say whether the fault output
+-- had failed before what was told last and since, which held `a`, then `b`, then `c`.
+pub tests_all : (MayBeLate : Type 0) (Comes : StandingValue → VisitOutcome → Type 0) (rules : VisitRules) (standing : StandingValue) (score counted : Score) (bytes behind : List ℕ)
+    (old mid new : Option (List ℕ)) (failed works f g : Bool) (a b c : Option (List ℕ)) (exit : Exit)
+    → EndsVisits MayBeLate Comes rules standing score (record { failed = works; old = old; new = mid })
+    (record { failed = f; old = a; new = b })
+    → AddsLastLines rules standing.behaviors score bytes behind counted
     → Delivers (exit_of_report counted.is_failed) bytes exit (record { failed = failed; old = mid; new = new })
-    → TestsClients MayBeLate Comes rules (Ok exit) (record { failed = failed; old = old; new = new }) faults
-tests_all MayBeLate Comes rules standing score counted bytes old mid new failed works exit faults so (lines, count) told =
+    → (f ≡ true → g ≡ true) → TellsEach (beside_for rules.telling behind) (record { failed = g; old = b; new = c })
+    → TestsClients MayBeLate Comes rules (Ok exit) (record { failed = failed; old = old; new = new })
+    (record { failed = g; old = a; new = c })
+tests_all MayBeLate Comes rules standing score counted bytes behind old mid new failed works f g a b c exit so (lines, is_behind, count) told still beside =
     let run = tests_of rules so.visits in
     let more = not_run rules.cases.now standing.behaviors in
     let tests = run ++ more in
     let all : counted ≡ score_for rules.telling tests =
     count ∙ ap (λ (s : Score). score_with_all rules.telling s more) so.counted
     ∙ score_all_more rules.telling run more in
-    let last = total_for rules.telling (length rules.cases.now) counted.tally in
+    let last = end_for rules.telling behind in
     let text : lines_for rules.telling run ++ bytes ≡ lines_for rules.telling tests ++ last =
     ap (λ (l : List ℕ). lines_for rules.telling run ++ l) lines
     ∙ sym (append_assoc (lines_for rules.telling run) (lines_for rules.telling more) last)
     ∙ ap (λ (l : List ℕ). l ++ last) (sym (flat_map-append (line_for rules.telling) run more)) in
     let whole = delivers_after old mid new failed (lines_for rules.telling run) bytes (exit_of_report counted.is_failed)
     exit so.told.0 told in
+    let noted = each_then (notes_of_visits rules so.visits) (beside_for rules.telling behind) g a b c
+    (each_on (notes_of_visits rules so.visits) f g a b still so.noted) beside in
     inl (record {
       visits = so.visits;
       standing = standing;
@@ -518,10 +699,17 @@ tests_all MayBeLate Comes rules standing score counted bytes old mid new failed 
       tests = tests;
       are_tests = refl;
       told = subst
-          (λ (s : Score). Delivers (exit_of_report s.is_failed)
-          (lines_for rules.telling tests ++ total_for rules.telling (length rules.cases.now) s.tally) exit
+          (λ (s : Score). Delivers (exit_of_report s.is_failed) (lines_for rules.telling tests
+          ++ end_for rules.telling (behind_for rules.telling (length rules.cases.now) s)) exit
           (record { failed = failed; old = old; new = new })) all
+          (subst (λ (l : List ℕ). Delivers (exit_of_report counted.is_failed) (lines_for rules.telling tests
+          ++ end_for rules.telling l) exit (record { failed = failed; old = old; new = new })) is_behind
           (subst (λ (l : List ℕ). Delivers (exit_of_report counted.is_failed) l exit
-          (record { failed = failed; old = old; new = new })) text whole);
-      noted = so.noted;
+          (record { failed = failed; old = old; new = new })) text whole));
+      noted = subst
+          (λ (s : Score). TellsEach (notes_of_visits rules so.visits
+          ++ beside_for rules.telling (behind_for rules.telling (length rules.cases.now) s))
+          (record { failed = g; old = a; new = c })) all
+          (subst (λ (l : List ℕ). TellsEach (notes_of_visits rules so.visits ++ beside_for rules.telling l)
+          (record { failed = g; old = a; new = c })) is_behind noted);
     })

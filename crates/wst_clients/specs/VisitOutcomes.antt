@@ -16,7 +16,7 @@ use Rattle.wst_commands.specs.declared.explaining.Judgement.{Judgement}
 use Rattle.wst_clients.specs.Visits.{case_for, case_notes, refused_line}
 use Rattle.wst_testing.specs.declared.outcome.Outcome.{Outcome}
 use Rattle.wst_testing.specs.declared.outcome.Outcome.TheVariants.{HeadRefused, Judged, NoConnection, NotRun}
-use Rattle.wst_testing.specs.declared.outcome.Tally.{Tally}
+use Rattle.wst_testing.specs.declared.outcome.Score.{Score}
 use Rattle.ws_frame.specs.declared.source.DataStyle.{DataStyle}
 use Rattle.ws_scripts.specs.declared.expectation.Expectation.{Expectation}
 use Rattle.wst_clients.specs.declared.visiting.Visit.{Visit}
@@ -139,5 +139,6 @@ not_run (case ∷ cases) (behavior ∷ behaviors) = not_run_if case behavior ++ 
 
 -- ---- inside the crate: a step of a count, for the contracts of private functions
 
-abbrev pub HasRoomToCount : Tally → Type 0
-HasRoomToCount tally = (tally.pass + 1 < 2 ^ 64) × (tally.loose + 1 < 2 ^ 64) × (tally.fail + 1 < 2 ^ 64)
+abbrev pub HasRoomToCount : Score → Type 0
+HasRoomToCount score = (score.tally.pass + 1 < 2 ^ 64) × (score.tally.loose + 1 < 2 ^ 64)
+    × (score.tally.fail + 1 < 2 ^ 64) × (score.failures + 1 < 2 ^ 64)

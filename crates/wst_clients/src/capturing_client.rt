@@ -142,5 +142,6 @@ fn client_rules(expected: Expectation) -> RunRules
         explains: None,
         progress: false,
         is_limited: false,
+        max_fail: None,
     }
 }

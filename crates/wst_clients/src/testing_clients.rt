@@ -1,5 +1,5 @@
 //! Clients under test, one after the other: what each asks for is done, the line of each case that was run is written
-//! as it ends, and at the end those of the cases that none has asked for, and the total.
+//! as it ends, and at the end those of the cases that none has asked for, and what stands behind all of them.
 
 ghost use Rattle.std.specs.Prelude.{◌≡◌, ◌<◌, ◌^◌, ◌++◌, IfOk, [], false, length, string_bytes};
 ghost use Rattle.std.specs.List.{All};
@@ -10,15 +10,17 @@ ghost use Rattle.ws_scripts.specs.Scripts.{CanBeRun};
 ghost use Rattle.ws_upgrade.specs.Protocols.{AreOffers};
 ghost use Rattle.wst_commands.specs.Devices.{StaysFailed};
 ghost use Rattle.wst_clients.specs.ClientTests.{AddsLastLines, AddsNotRun, FitsCases, RunsVisits, TestsClients};
+ghost use Rattle.wst_clients.specs.ClientTests.{WritesEnough};
+ghost use Rattle.wst_testing.specs.Outcomes.{count_in};
 ghost use Rattle.wst_clients.specs.VisitOutcomes.{ComesTo, HasRoomToCount, not_run_if};
 ghost use Rattle.wst_clients.specs.ClientLines.{lines_for, score_with_all};
 ghost use Rattle.wst_clients.specs.Visits.{known_by};
 ghost use Rattle.wst_clients.specs.declared.testing_clients.VisitsEnd.TheVariants.{Ended};
 
-use crate::client_lines::{line_for, total_for};
+use crate::client_lines::{behind_for, end_for, tell_beside_for};
 use crate::tested_clients::TestedClients;
 use crate::visit_outcome::{
-    count_visit, ends_with, keep_outcome, outcome_of_client, report_outcome,
+    ends_with, keep_outcome, outcome_of_client, report_counted, report_outcome,
 };
 use crate::visiting::{Telling, VisitRules};
 use std::alloc::Global;
@@ -39,13 +41,16 @@ pub(crate) const MAX_VISITS: u64 = 1 << 62;
 pub enum VisitsEnd {
     /// With a connection that ends the run, or without one in time: the cases stand so, and the run has come to this.
     Ended(Standing, Score),
+    /// With enough failures: the run has come to this.
+    Enough(Score),
     /// None can come any more, or a line could not be written.
     Stopped,
 }
 
 /// Takes connections, one after the other, until one ends the run, or none comes in time. Writes a line for each case
-/// that was run as it ends, then one for each case that was not run, and the total last. A line that can't be written
-/// ends the run, and so does a listener that takes no connection any more.
+/// that was run as it ends, then one for each case that was not run, and what stands behind all cases last. A line that
+/// can't be written ends the run, and so does a listener that takes no connection any more. Behind enough failures
+/// stands the total of what was run.
 pub fn test_clients<C: TestedClients, W: Write, F: Write>(
     alloc: Global,
     clients: &C,
@@ -61,10 +66,13 @@ pub fn test_clients<C: TestedClients, W: Write, F: Write>(
     ensures still { StaysFailed faults.old faults.new }
 {
     match run_visits(alloc, clients, rules, writer, faults)? {
-        VisitsEnd::Ended(standing, score) => {
-            let (lines, counted) = last_lines(alloc, rules, &standing, score)?;
-            Ok(deliver(counted.exit(), lines.as_bytes(), writer))
+        VisitsEnd::Ended(standing, mut score) => {
+            let (lines, behind) = last_lines(alloc, rules, &standing, &mut score)?;
+            let exit = deliver(score.exit(), lines.as_bytes(), writer);
+            tell_beside_for(rules.telling, behind.as_str(), faults);
+            Ok(exit)
         }
+        VisitsEnd::Enough(score) => tell_enough(alloc, rules, &score, writer, faults),
         VisitsEnd::Stopped => Ok(Exit::Failed),
     }
 }
@@ -87,7 +95,7 @@ fn run_visits<C: TestedClients, W: Write, F: Write>(
     ensures still { StaysFailed faults.old faults.new }
 {
     let mut standing = none_run(alloc, rules.cases)?;
-    let mut score = Score::new();
+    let mut score = Score::new(alloc);
     let mut visited = 0;
     while visited < MAX_VISITS {
         visited += 1;
@@ -98,19 +106,42 @@ fn run_visits<C: TestedClients, W: Write, F: Write>(
         };
         let outcome = outcome_of_client(alloc, clients, &client, rules, &standing, faults)?;
         let client = clients.half_close(client);
-        let reported = report_outcome(alloc, rules, &outcome)?;
-        deliver(Exit::Done, reported.text.as_bytes(), writer);
+        let text = report_outcome(alloc, rules, &outcome, &mut score)?;
+        deliver(Exit::Done, text.as_bytes(), writer);
         clients.leave(client);
         if writer.failed() {
             return Ok(VisitsEnd::Stopped);
         }
         keep_outcome(rules, &mut standing, &outcome);
-        score = count_visit(rules, score, &outcome, reported.is_failed);
+        if score.is_enough(rules.max_fail) {
+            return Ok(VisitsEnd::Enough(score));
+        }
         if ends_with(&standing, &outcome) {
             return Ok(VisitsEnd::Ended(standing, score));
         }
     }
     Ok(VisitsEnd::Stopped)
+}
+
+/// Writes what stands behind the cases of a run that failures have ended, which came to this.
+fn tell_enough<W: Write, F: Write>(
+    alloc: Global,
+    rules: &VisitRules<'_>,
+    score: &Score,
+    writer: &mut Watched<W>,
+    faults: &mut Watched<F>,
+) -> Result<Exit, Fault>
+    requires works { has_failed writer.old ≡ false }
+    requires few { count_in score.now.tally < 2 ^ 64 }
+    ensures is { WritesEnough rules.now.telling score.now result (writer.new ≡ writer.old) (faults.new ≡ faults.old)
+        (watched W.contents writer.old writer.new) (watched F.contents faults.old faults.new) }
+    ensures still { StaysFailed faults.old faults.new }
+{
+    let behind = behind_for(alloc, rules.telling, score.tally.count(), score)?;
+    let text = end_for(rules.telling, behind.as_str());
+    let exit = deliver(score.exit(), text.as_bytes(), writer);
+    tell_beside_for(rules.telling, behind.as_str(), faults);
+    Ok(exit)
 }
 
 /// How the cases stand before a client came.
@@ -125,49 +156,49 @@ pub(crate) fn none_run(alloc: Global, cases: &[Case]) -> Result<Standing, NoMemo
     Ok(standing)
 }
 
-/// The lines of the cases that were not run, and the total, with what it counts.
+/// The lines of the cases that were not run, which are counted, and what is written last; and what stands behind all
+/// cases.
 fn last_lines(
     alloc: Global,
     rules: &VisitRules<'_>,
     standing: &Standing,
-    score: Score,
-) -> Result<(String, Score), NoMemory>
-    requires fits { FitsCases (length rules.now.cases.now) (Ended standing.now score) }
-    ensures { IfOk result (λ added.
-        AddsLastLines rules.now standing.now.behaviors score (string_bytes added.0) added.1) }
+    score: &mut Score,
+) -> Result<(String, String), NoMemory>
+    requires fits { FitsCases (length rules.now.cases.now) (Ended standing.now score.old) }
+    ensures { IfOk result (λ added. AddsLastLines rules.now standing.now.behaviors score.old (string_bytes added.0)
+        (string_bytes added.1) score.new) }
 {
-    let (mut lines, counted) = not_run_lines(alloc, rules, standing, score)?;
-    let total = total_for(alloc, rules.telling, rules.cases.len(), counted.tally)?;
-    lines.push_str(total.as_str())?;
-    Ok((lines, counted))
+    let mut lines = not_run_lines(alloc, rules, standing, score)?;
+    let behind = behind_for(alloc, rules.telling, rules.cases.len(), score)?;
+    lines.push_str(end_for(rules.telling, behind.as_str()))?;
+    Ok((lines, behind))
 }
 
-/// The lines of the cases that were not run, and the count with them.
+/// The lines of the cases that were not run, which are counted.
 fn not_run_lines(
     alloc: Global,
     rules: &VisitRules<'_>,
     standing: &Standing,
-    score: Score,
-) -> Result<(String, Score), NoMemory>
-    requires fits { FitsCases (length rules.now.cases.now) (Ended standing.now score) }
-    ensures { IfOk result (λ added.
-        AddsNotRun rules.now.telling rules.now.cases.now standing.now.behaviors score (string_bytes added.0) added.1) }
+    score: &mut Score,
+) -> Result<String, NoMemory>
+    requires fits { FitsCases (length rules.now.cases.now) (Ended standing.now score.old) }
+    ensures { IfOk result (λ lines. AddsNotRun rules.now.telling rules.now.cases.now standing.now.behaviors score.old
+        (string_bytes lines) score.new) }
 {
     let cases = rules.cases;
     let mut lines = String::new(alloc);
-    let mut counted = score;
     for place in 0..cases.len() {
         let behavior = standing.behavior(place as u32 + 1);
-        counted = add_if_not_run(
+        add_if_not_run(
             alloc,
             rules.telling,
             &cases[place],
             behavior,
-            counted,
+            score,
             &mut lines,
         )?;
     }
-    Ok((lines, counted))
+    Ok(lines)
 }
 
 /// Puts the line of a case at the end of the lines, where it was not run, and counts it.
@@ -176,22 +207,21 @@ fn add_if_not_run(
     telling: Telling<'_>,
     case: &Case,
     behavior: Behavior,
-    score: Score,
+    score: &mut Score,
     lines: &mut String,
-) -> Result<Score, NoMemory>
-    requires { HasRoomToCount score.tally }
+) -> Result<(), NoMemory>
+    requires { HasRoomToCount score.old }
     ensures lines { IfOk result (λ _.
         string_bytes lines.new ≡ string_bytes lines.old ++ lines_for telling.entry (not_run_if case.now behavior)) }
-    ensures counted { IfOk result (λ counted.
-        counted ≡ score_with_all telling.entry score (not_run_if case.now behavior)) }
+    ensures counted { IfOk result (λ _.
+        score.new ≡ score_with_all telling.entry score.old (not_run_if case.now behavior)) }
 {
     match behavior {
         Behavior::Unimplemented => {
-            let outcome = Outcome::NotRun;
-            let reported = line_for(alloc, telling, case, &outcome)?;
-            lines.push_str(reported.text.as_str())?;
-            Ok(score.with(&outcome, reported.is_failed))
+            let text = report_counted(alloc, telling, case, &Outcome::NotRun, score)?;
+            lines.push_str(text.as_str())?;
+            Ok(())
         }
-        Behavior::Ok | Behavior::NonStrict | Behavior::Failed => Ok(score),
+        Behavior::Ok | Behavior::NonStrict | Behavior::Failed => Ok(()),
     }
 }

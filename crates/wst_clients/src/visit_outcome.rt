@@ -1,7 +1,7 @@
 //! What is told of a connection of a client under test, and how the cases stand after it.
 
-ghost use Rattle.std.specs.Prelude.{◌≡◌, [], ◌∷◌, IfOk, MatchOption, OnErr, length, string_bytes};
-ghost use Rattle.std.specs.List.{All, list_any};
+ghost use Rattle.std.specs.Prelude.{◌≡◌, [], ◌∷◌, IfOk, MatchOption, OnErr, OnOk, length, string_bytes};
+ghost use Rattle.std.specs.List.{All};
 ghost use Rattle.ws_frame.specs.Devices.{watched};
 ghost use Rattle.ws_scripts.specs.Scripts.{CanBeRun};
 ghost use Rattle.wst_commands.specs.Devices.{StaysFailed};
@@ -9,11 +9,12 @@ ghost use Rattle.wst_testing.specs.Notes.{TellsEach};
 ghost use Rattle.wst_clients.specs.VisitOutcomes.{AsksInside, ComesTo, IsVisitOutcome, after_outcome, behavior_for};
 ghost use Rattle.wst_clients.specs.VisitOutcomes.{HasRoomToCount, ends_with_outcome, outcome_notes, tests_in};
 ghost use Rattle.wst_clients.specs.Visits.{CanBeVisited, TellsSome};
-ghost use Rattle.wst_clients.specs.ClientLines.{fails_for, lines_for, score_with_all};
+ghost use Rattle.wst_testing.specs.Reporting.{score_by};
+ghost use Rattle.wst_clients.specs.ClientLines.{line_for, lines_for, score_of_case, score_with_all};
 
 use crate::client_lines::line_for;
 use crate::tested_clients::TestedClients;
-use crate::visiting::{Visit, VisitRules, case_for};
+use crate::visiting::{Telling, Visit, VisitRules, case_for};
 use std::alloc::Global;
 use std::io::Write;
 use ws_base::NoMemory;
@@ -97,26 +98,46 @@ fn test_in<'a>(rules: &VisitRules<'a>, outcome: &'a VisitOutcome) -> Option<(&'a
     }
 }
 
-/// What is written of a case that was run, if one was, and whether a run of it alone would be said to have failed.
+/// What is written of a case that was run, if one was, which is counted. Where memory runs out, the count is as before.
 pub(crate) fn report_outcome(
     alloc: Global,
     rules: &VisitRules<'_>,
     outcome: &VisitOutcome,
-) -> Result<Reported, NoMemory>
+    score: &mut Score,
+) -> Result<String, NoMemory>
     requires can { All CanBeRun rules.now.cases.now }
     requires inside { AsksInside rules.now outcome.now }
-    ensures text { IfOk result (λ told.
-        string_bytes told.text ≡ lines_for rules.now.telling (tests_in rules.now outcome.now)) }
-    ensures failed { IfOk result (λ told.
-        told.is_failed ≡ list_any (fails_for rules.now.telling) (tests_in rules.now outcome.now)) }
+    requires room { HasRoomToCount score.old }
+    ensures text { IfOk result (λ text.
+        string_bytes text ≡ lines_for rules.now.telling (tests_in rules.now outcome.now)) }
+    ensures counted { OnOk result
+        (score.new ≡ score_with_all rules.now.telling score.old (tests_in rules.now outcome.now)) }
+    ensures kept { OnErr result (score.new ≡ score.old) }
 {
     match test_in(rules, outcome) {
-        Some((case, told)) => line_for(alloc, rules.telling, case, told),
-        None => Ok(Reported {
-            text: String::new(alloc),
-            is_failed: false,
-        }),
+        Some((case, told)) => report_counted(alloc, rules.telling, case, told, score),
+        None => Ok(String::new(alloc)),
     }
+}
+
+/// What is written of a case, which is counted. Where memory runs out, the count is as before.
+pub(crate) fn report_counted(
+    alloc: Global,
+    telling: Telling<'_>,
+    case: &Case,
+    outcome: &Outcome,
+    score: &mut Score,
+) -> Result<String, NoMemory>
+    requires room { HasRoomToCount score.old }
+    ensures text { IfOk result (λ text. string_bytes text ≡ line_for telling.entry (case.now, outcome.now)) }
+    ensures counted { OnOk result
+        (score.new ≡ score_by score.old outcome.now (score_of_case telling.entry (case.now, outcome.now))) }
+    ensures kept { OnErr result (score.new ≡ score.old) }
+{
+    let reported = line_for(alloc, telling, case, outcome)?;
+    let Reported { text, score: added } = reported;
+    score.count(outcome, added)?;
+    Ok(text)
 }
 
 /// What is told of a client in a case stands as what came of the case.
@@ -142,25 +163,6 @@ fn behavior_for(told: &Outcome) -> Behavior
         },
         Outcome::HeadRefused(_) | Outcome::NoConnection(_) => Behavior::Failed,
         Outcome::NotRun => Behavior::Unimplemented,
-    }
-}
-
-/// The count with one connection more, with which a run is said to have failed or not.
-pub(crate) fn count_visit(
-    rules: &VisitRules<'_>,
-    score: Score,
-    outcome: &VisitOutcome,
-    is_failed: bool,
-) -> Score
-    requires can { All CanBeRun rules.now.cases.now }
-    requires inside { AsksInside rules.now outcome.now }
-    requires room { HasRoomToCount score.tally }
-    requires failed { is_failed ≡ list_any (fails_for rules.now.telling) (tests_in rules.now outcome.now) }
-    ensures { result ≡ score_with_all rules.now.telling score (tests_in rules.now outcome.now) }
-{
-    match test_in(rules, outcome) {
-        Some((_case, told)) => score.with(told, is_failed),
-        None => score,
     }
 }
 

@@ -58,6 +58,8 @@ pub struct VisitRules<'a> {
     pub explains: Option<DataStyle>,
     /// The name of each case is told before it runs.
     pub progress: bool,
+    /// So many failures end the run, where a number of them is given.
+    pub max_fail: Option<u32>,
     /// How cases are told of.
     pub telling: Telling<'a>,
 }

@@ -81,6 +81,7 @@ pub record AreRulesOf (plan : TestPlan) (report : ReportValue) (rules : VisitRul
   pub expected : rules.expected ≡ plan.run.expected
   pub explains : rules.explains ≡ plan.explain
   pub progress : rules.progress ≡ plan.progress
+  pub max_fail : rules.max_fail ≡ plan.max_fail
   pub telling : TellsBy report rules.telling
 
 -- the first line could not be written, or not flushed, and nothing was written after it

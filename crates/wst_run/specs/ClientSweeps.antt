@@ -45,6 +45,7 @@ pub record AreSweepRulesOf (plan : SweepPlan) (given : List Case) (rules : Visit
   pub expected : rules.expected ≡ plan.run.expected
   pub explains : rules.explains ≡ None
   pub progress : rules.progress ≡ plan.progress
+  pub max_fail : rules.max_fail ≡ plan.max_fail
   pub telling : rules.telling ≡ Scripts plan.all
 
 -- what is told of the address is told, and then clients are tested, whose cases are the short scripts; or nothing is

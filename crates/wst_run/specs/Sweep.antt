@@ -8,16 +8,19 @@ use Rattle.wst_commands.specs.Devices.{Tells}
 use Rattle.wst_commands.specs.declared.exit.Exit.{Exit}
 use Rattle.wst_commands.specs.declared.exit.Exit.TheVariants.{WrongWords}
 use Rattle.wst_run.specs.ClientSweeps.{SweepsClientsAt}
-use Rattle.wst_testing.specs.RunPlans.{CanNotRun, IsRunPlan, TellsRefusal, tested_role, tells_waits}
+use Rattle.wst_testing.specs.RunPlans.{CanNotRun, GivesMaxFail, HasMaxFail, IsRunPlan, TellsRefusal, tested_role}
+use Rattle.wst_testing.specs.RunPlans.{tells_waits}
 use Rattle.wst_testing.specs.declared.run_plans.UsualTimes.TheVariants.{OfCases}
 use Rattle.wst_testing.specs.Servers.{MeetsAtTarget, MeetsInMemory}
 use Rattle.wst_testing.specs.Sweeps.{SweepsScripts, TellsSweepEnd}
 use Rattle.wst_sockets.specs.declared.meeting.Meeting.{Meeting}
+use Rattle.wst_testing.specs.declared.run_plans.Refusal.TheVariants as refusal
+use Rattle.wst_testing.specs.declared.run_plans.RunPlan.{RunPlan}
 use Rattle.wst_testing.specs.declared.run_plans.TestedEnd.{TestedEnd}
 use Rattle.wst_testing.specs.declared.run_plans.TestedEnd.TheVariants.{Clients, Memory, Server}
 use Rattle.wst_run.specs.declared.sweep.SweepPlan.{SweepPlan}
 use Rattle.wst_run.specs.declared.sweep.SweepRefusal.{SweepRefusal}
-use Rattle.wst_run.specs.declared.sweep.SweepRefusal.TheVariants.{Other, TooManySteps}
+use Rattle.wst_run.specs.declared.sweep.SweepRefusal.TheVariants.{BadMaxFail, Other, TooManySteps}
 use Rattle.wst_testing.specs.declared.runner.RunStop.{RunStop}
 use Rattle.wst_testing.specs.declared.sweeping.SweepRules.{SweepRules}
 
@@ -36,16 +39,20 @@ pub record IsSweepPlan (options : SweepOptions) (plan : SweepPlan) : Type 0 wher
   pub run : IsRunPlan OfCases options.run plan.run
   pub all : plan.all ≡ options.all
   pub progress : plan.progress ≡ options.progress
+  pub max_fail : GivesMaxFail options.max_fail plan.max_fail
 
--- The first of these that applies: no script has so many steps; the shared words can't be run. Memory may run out at
--- any of the latter.
+-- The first of these that applies: no script has so many steps; the shared words can't be run; the number of failures
+-- is none. Memory may run out at any of the shared ones.
 abbrev pub RefusesSweep : SweepOptions → SweepRefusal → Type 0
 RefusesSweep options TooManySteps = HasTooManySteps options.steps
 RefusesSweep options (Other why) = (options.steps ≤ max_steps) × CanNotRun options.run why
+RefusesSweep options BadMaxFail = (options.steps ≤ max_steps) × ((run : RunPlan) × IsRunPlan OfCases options.run run)
+    × ¬ (HasMaxFail options.max_fail)
 
 -- what is told of a refusal, and the exit
 abbrev pub TellsSweepRefusal : SweepRefusal → Exit → Device → Type 0
 TellsSweepRefusal TooManySteps exit faults = (exit ≡ WrongWords) × Tells (codes "--steps takes 0 to 4\n") faults
+TellsSweepRefusal BadMaxFail exit faults = TellsRefusal refusal.BadMaxFail exit faults
 TellsSweepRefusal (Other why) exit faults = TellsRefusal why exit faults
 
 -- ---- a run
@@ -60,6 +67,7 @@ sweep_rules_of plan = record {
   progress = plan.progress;
   key = plan.run.key;
   names = tells_waits plan.run;
+  max_fail = plan.max_fail;
 }
 
 -- the plan is carried out over ends that meet cases so, and how that ended is told behind what was told before

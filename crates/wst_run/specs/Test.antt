@@ -17,7 +17,7 @@ use Rattle.wst_commands.specs.declared.given_cases.NoCases.TheVariants.{NoMemory
 use Rattle.wst_run.specs.ClientRuns.{TestsClientsAt}
 use Rattle.wst_testing.specs.KnownInput.{IsKnownBy, StopsKnowing, TellsKnownStop}
 use Rattle.wst_testing.specs.Reporting.{ClosesReport, StopsAtStart}
-use Rattle.wst_testing.specs.RunPlans.{IsRunPlan, CanNotRun, TellsRefusal, tested_role}
+use Rattle.wst_testing.specs.RunPlans.{CanNotRun, GivesMaxFail, HasMaxFail, IsRunPlan, TellsRefusal, tested_role}
 use Rattle.wst_testing.specs.declared.run_plans.UsualTimes.TheVariants.{OfCases}
 use Rattle.wst_testing.specs.Servers.{MeetsAtTarget, MeetsInMemory}
 use Rattle.wst_testing.specs.Testing.{RunsCapture, RunsCases}
@@ -72,6 +72,7 @@ pub record IsPlan (options : TestOptions) (plan : TestPlan) : Type 0 where
   pub explain : plan.explain ≡ explained_with options
   pub progress : plan.progress ≡ options.progress
   pub can_capture : CanCapture options
+  pub max_fail : GivesMaxFail options.max_fail plan.max_fail
   pub cases : AreCasesFor (words_given options) plan.cases.items
 
 -- the cases can be run, and a capture is of one
@@ -85,13 +86,16 @@ abbrev pub CanRun : TestOptions → Type 0
 CanRun options = CanReport options × ((run : RunPlan) × IsRunPlan OfCases options.run run)
 
 -- The first of these that applies: a capture is asked for beside a report; the shared words can't be run; a capture is
--- not of one case; a word stands for no case. Memory may run out at any of them but the first.
+-- not of one case; a word stands for no case; the number of failures is none. Memory may run out at any of them but the
+-- first.
 abbrev pub RefusesTest : TestOptions → Refusal → Type 0
 RefusesTest options refusal.CaptureInReport = captures_in_report options ≡ true
 RefusesTest options refusal.NotOneCase = CanRun options × ¬ (CanCapture options)
 RefusesTest options (refusal.NoCases (NoSuchCase id)) =
     CanRun options × CanCapture options × LackCases (words_given options) (NoSuchCase id)
 RefusesTest options (refusal.NoCases NoMemory) = ⊤
+RefusesTest options refusal.BadMaxFail = CanRun options × CanCapture options
+    × ((cases : List Case) × AreCasesFor (words_given options) cases) × ¬ (HasMaxFail options.max_fail)
 RefusesTest options other = CanReport options × CanNotRun options.run other
 
 -- ---- a run
@@ -105,6 +109,7 @@ rules_of plan = record {
   explains = plan.explain;
   progress = plan.progress;
   is_limited = plan.run.gives_limit;
+  max_fail = plan.max_fail;
 }
 
 -- What the report has before all cases was written, the cases were run, and where that ended early, what it has behind
@@ -150,9 +155,11 @@ RunsPlanOver (Clients address) plan report exit output faults =
 
 -- ---- the earlier run
 
--- the report is a document where one is asked for, beside the earlier run whose lines came in, where one is to be known
+-- the report is a document where one is asked for, and so has a summary, beside the earlier run whose lines came in,
+-- where one is to be known
 abbrev pub IsReportFor : TestOptions → ReportValue → Device → Type 0
-IsReportFor options report input = (report.is_junit ≡ options.junit) × IsKnownBy options.known report.known input
+IsReportFor options report input = (report.is_junit ≡ options.junit) × (report.has_summary ≡ options.summary)
+    × IsKnownBy options.known report.known input
 
 -- the plan is carried out, and told beside the earlier run; or that can't be known, which is told, and nothing is run
 abbrev pub RunsPlanAsked : TestOptions → TestPlan → Exit → Device → Device → Device → Type 0

@@ -213,6 +213,7 @@ fn visit_rules<'a>(plan: &'a TestPlan<'_>, report: &'a Report) -> VisitRules<'a>
         expected: plan.run.expected,
         explains: plan.explain,
         progress: plan.progress,
+        max_fail: plan.max_fail,
         telling: Telling::Cases(report),
     }
 }

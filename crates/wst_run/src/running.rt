@@ -162,7 +162,7 @@ fn run_planned<N: Network, C: Connector, R: Read, W: Write, F: Write>(
 {
     match known_given(alloc, options.known, reader) {
         Ok(known) => {
-            let report = Report::new(options.junit, known);
+            let report = Report::new(options.junit, options.summary, known);
             run_over_target(alloc, plan, &report, net, connector, writer, faults)
         }
         Err(why) => tell_known_stop(alloc, why, faults),

@@ -16,8 +16,8 @@ use wst_commands::{Exit, tell};
 use wst_network::Connector;
 use wst_sockets::Network;
 use wst_testing::{
-    CaseServer, End, Refusal, RunPlan, SweepRules, UsualTimes, plan_run, sweep_scripts,
-    tell_refusal, tell_sweep_end,
+    CaseServer, End, Refusal, RunPlan, SweepRules, UsualTimes, max_fail_given, plan_run,
+    sweep_scripts, tell_refusal, tell_sweep_end,
 };
 use wst_words::SweepOptions;
 
@@ -32,6 +32,8 @@ pub struct SweepPlan<'a> {
     pub all: bool,
     /// The steps of each script are told before it runs.
     pub progress: bool,
+    /// So many failures end the run, where a number of them is given.
+    pub max_fail: Option<u32>,
 }
 
 /// Why no script is run: the first of these that applies.
@@ -39,6 +41,8 @@ pub struct SweepPlan<'a> {
 pub enum SweepRefusal<'a> {
     /// No script has so many steps.
     TooManySteps,
+    /// The number of failures that are to end a run is none of 1 to 1000.
+    BadMaxFail,
     /// What is wrong with the words that `test` has too, or memory ran out.
     Other(Refusal<'a>),
 }
@@ -65,11 +69,15 @@ pub fn plan_sweep<'a>(
         return Err(SweepRefusal::TooManySteps);
     };
     let run = plan_run(alloc, &options.run, UsualTimes::OfCases)?;
+    let Some(max_fail) = max_fail_given(options.max_fail) else {
+        return Err(SweepRefusal::BadMaxFail);
+    };
     Ok(SweepPlan {
         run,
         steps,
         all: options.all,
         progress: options.progress,
+        max_fail,
     })
 }
 
@@ -133,6 +141,7 @@ fn rules_of(plan: &SweepPlan<'_>) -> SweepRules
         progress: plan.progress,
         key: plan.run.key,
         names: plan.run.tells_waits(),
+        max_fail: plan.max_fail,
     }
 }
 
@@ -149,6 +158,7 @@ pub fn tell_sweep_refusal<F: Write>(
             tell(b"--steps takes 0 to 4\n", faults);
             Exit::WrongWords
         }
+        SweepRefusal::BadMaxFail => tell_refusal(alloc, Refusal::BadMaxFail, faults),
         SweepRefusal::Other(refusal) => tell_refusal(alloc, refusal, faults),
     }
 }

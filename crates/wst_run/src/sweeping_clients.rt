@@ -83,6 +83,7 @@ fn sweep_rules<'a>(plan: &'a SweepPlan<'_>, cases: &'a [Case]) -> VisitRules<'a>
         expected: plan.run.expected,
         explains: None,
         progress: plan.progress,
+        max_fail: plan.max_fail,
         telling: Telling::Scripts { all: plan.all },
     }
 }

@@ -18,8 +18,8 @@ use wst_commands::{Exit, Fault, cases_of, deliver, end_run, is_glob};
 use wst_network::Connector;
 use wst_sockets::Network;
 use wst_testing::{
-    CaseServer, End, Refusal, RunPlan, RunRules, UsualTimes, capture_case, close_report, plan_run,
-    test_cases,
+    CaseServer, End, Refusal, RunPlan, RunRules, UsualTimes, capture_case, close_report,
+    max_fail_given, plan_run, test_cases,
 };
 use wst_words::TestOptions;
 
@@ -36,6 +36,8 @@ pub struct TestPlan<'a> {
     pub explain: Option<DataStyle>,
     /// The name of each case is told before it runs.
     pub progress: bool,
+    /// So many failures end the run, where a number of them is given.
+    pub max_fail: Option<u32>,
     pub cases: Vec<Case>,
 }
 
@@ -148,6 +150,7 @@ fn rules_of(plan: &TestPlan<'_>) -> RunRules
         explains: plan.explain,
         progress: plan.progress,
         is_limited: plan.run.gives_limit,
+        max_fail: plan.max_fail,
     }
 }
 
@@ -164,12 +167,16 @@ pub fn plan_test<'a>(alloc: Global, options: &TestOptions<'a>) -> Result<TestPla
         return Err(Refusal::NotOneCase);
     }
     let cases = cases_of(alloc, options.ids.as_slice())?;
+    let Some(max_fail) = max_fail_given(options.max_fail) else {
+        return Err(Refusal::BadMaxFail);
+    };
     Ok(TestPlan {
         run,
         target: options.run.target,
         capture: options.capture,
         explain: explained_with(options),
         progress: options.progress,
+        max_fail,
         cases,
     })
 }

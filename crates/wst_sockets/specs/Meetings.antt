@@ -16,7 +16,7 @@ probe_of (NoConnection why) = probe.NoConnection
 -- the line that tells why there is no connection
 abbrev pub miss_line : ConnectFault → List ℕ
 miss_line why.NoSuchHost =
-    codes "no connection: no such host\n  the name is unknown, or it has no port up to 65535: localhost:9001\n"
+    codes "no connection: no such host\n  HOST:PORT, up to 65535, or with a path ws://localhost:9001/chat\n"
 miss_line why.Refused = codes "no connection: refused\n"
 miss_line why.Unreachable = codes "no connection: unreachable\n"
 miss_line why.TimedOut = codes "no connection: timed out\n"

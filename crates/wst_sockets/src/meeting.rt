@@ -30,7 +30,7 @@ impl ConnectFault {
     {
         match self {
             ConnectFault::NoSuchHost =>
-                b"no connection: no such host\n  the name is unknown, or it has no port up to 65535: localhost:9001\n",
+                b"no connection: no such host\n  HOST:PORT, up to 65535, or with a path ws://localhost:9001/chat\n",
             ConnectFault::Refused => b"no connection: refused\n",
             ConnectFault::Unreachable => b"no connection: unreachable\n",
             ConnectFault::TimedOut => b"no connection: timed out\n",

@@ -64,6 +64,7 @@ timeout_refused options refusal.BadKey head lacks is = absurd is
 timeout_refused options (refusal.BadAddress given) head lacks is = absurd is
 timeout_refused options refusal.CaptureInReport head lacks is = absurd is
 timeout_refused options refusal.NotOneCase head lacks is = absurd is
+timeout_refused options refusal.BadMaxFail head lacks is = absurd is
 timeout_refused options (refusal.NoCases why) head lacks is = absurd is
 
 -- and for a client to come
@@ -82,6 +83,7 @@ wait_refused options refusal.BadKey head limit lacks is = absurd is
 wait_refused options (refusal.BadAddress given) head limit lacks is = absurd is
 wait_refused options refusal.CaptureInReport head limit lacks is = absurd is
 wait_refused options refusal.NotOneCase head limit lacks is = absurd is
+wait_refused options refusal.BadMaxFail head limit lacks is = absurd is
 wait_refused options (refusal.NoCases why) head limit lacks is = absurd is
 
 -- and for a connection
@@ -101,6 +103,7 @@ deadline_refused options refusal.BadKey head limit wait lacks is = absurd is
 deadline_refused options (refusal.BadAddress given) head limit wait lacks is = absurd is
 deadline_refused options refusal.CaptureInReport head limit wait lacks is = absurd is
 deadline_refused options refusal.NotOneCase head limit wait lacks is = absurd is
+deadline_refused options refusal.BadMaxFail head limit wait lacks is = absurd is
 deadline_refused options (refusal.NoCases why) head limit wait lacks is = absurd is
 
 -- a word that gives one has one
@@ -140,3 +143,4 @@ end_refused options refusal.DeadlineWithUnit all is = absurd is
 end_refused options refusal.BadKey all is = absurd is
 end_refused options refusal.CaptureInReport all is = absurd is
 end_refused options refusal.NotOneCase all is = absurd is
+end_refused options refusal.BadMaxFail all is = absurd is

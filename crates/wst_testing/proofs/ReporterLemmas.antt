@@ -1,6 +1,6 @@
 -- What came of cases, judged, reported and counted one after the other, and how a run of them ends.
 use Rattle.std.proofs.Common.{◌≡◌, ◌∙◌, ◌+◌, ◌<◌, ◌^◌, ◌≤◌, ℕ, Bool, false, not, List, [], ◌∷◌, ◌++◌, Option, Some, None}
-use Rattle.std.proofs.Common.{Result, Ok, Err, IsErrAnd, MatchResult, if◌then◌else◌, ap, arith, refl, sym, subst, inl}
+use Rattle.std.proofs.Common.{Result, Ok, Err, IsErrAnd, if◌then◌else◌, ap, arith, refl, sym, subst, inl}
 use Rattle.std.proofs.Common.{inr, append-nil, append_assoc, filter, length, map, take, take_all, true}
 use Rattle.std.proofs.KnownBytes.{Appends-nil, Appends-trans}
 use Rattle.std.proofs.lemmas.List.{length-map, map-append}
@@ -18,16 +18,17 @@ use Rattle.wst_commands.specs.declared.fault.Fault.{Fault}
 use Rattle.wst_commands.specs.declared.fault.Fault.TheVariants.{NoMemory}
 use Rattle.wst_sockets.specs.declared.meeting.ConnectFault.{ConnectFault}
 use Rattle.wst_sockets.specs.declared.meeting.Meeting.{Meeting}
+use Rattle.wst_testing.specs.Failures.{WentOn, is_enough}
 use Rattle.wst_testing.specs.Hints.{IsHintState, hint_place, hint_with, notes_with}
 use Rattle.wst_testing.specs.declared.hinting.HintState.{HintState}
 use Rattle.wst_testing.specs.Notes.{TellsEach, miss_notes, notes_of, progress_notes}
 use Rattle.wst_testing.specs.Outcomes.{MayRunEach, is_fail, is_loose, is_missed, is_pass, max_missed, missed_at_end}
-use Rattle.wst_testing.specs.Outcomes.{total_line}
-use Rattle.wst_testing.specs.Reporter.{AreJudged, HasReported, IsEndOfStop, StopsReport}
-use Rattle.wst_testing.specs.Reporting.{exit_of_report, no_score, report_text, report_texts, score_of, score_with}
+use Rattle.wst_testing.specs.Reporter.{AreJudged, HasReported, IsEndOfStop, StopsReport, WorksFor}
+use Rattle.wst_testing.specs.Reporting.{EndsReporting, behind_text, beside_notes, exit_of_report, is_failure, no_score}
+use Rattle.wst_testing.specs.Reporting.{report_text, report_texts, score_of, score_with}
 use Rattle.wst_testing.specs.Runner.{CameOf, GaveOfList, Hearing, ListValue, Stopping, StopsRun, items_of}
 use Rattle.wst_testing.specs.Testing.{AreTested, IsOutcomeOf, IsTested, LacksMemoryAfter, RunsCases, StopsAtConnection}
-use Rattle.wst_testing.specs.Testing.{StopsAtLine, TellsAll, outcomes_in}
+use Rattle.wst_testing.specs.Testing.{StopsAtFailures, StopsAtLine, TellsAll, outcomes_in}
 use Rattle.wst_testing.specs.declared.outcome.Outcome.{Outcome}
 use Rattle.wst_testing.specs.declared.outcome.Outcome.TheVariants.{NoConnection}
 use Rattle.wst_testing.specs.declared.runner.RunStop.{RunStop}
@@ -115,6 +116,11 @@ may_run_then most tests case outcome missed may counted few =
 count_within : {X : Type 0} (p : X → Bool) (xs : List X) → length (filter p xs) ≤ length xs
 count_within p xs = omega (arith, length-filter_both p (λ x. not (p x)) (λ x. refl) xs)
 
+-- nor behind no failure
+pub none_enough : (most : Option ℕ) → is_enough most 0 ≡ false
+none_enough None = refl
+none_enough (Some most) = refl
+
 module _ (rules : RunRules) (report : ReportValue) (place : ℕ) where
   pub reported_nothing : (score : Score) (hint : HintState) (held : Option (List ℕ)) (failed : Bool) (faults : Device)
       → score ≡ no_score → IsHintState place [] hint → failed ≡ false → TellsEach [] faults
@@ -124,6 +130,8 @@ module _ (rules : RunRules) (report : ReportValue) (place : ℕ) where
     judged = tt;
     may_run = λ k below. absurd (omega (arith, below));
     few = some_missed rules.is_limited;
+    went_on = inl refl;
+    goes_on = none_enough rules.max_fail;
     counted = refl;
     scored = none;
     written = Appends-nil held;
@@ -145,6 +153,8 @@ module _ (rules : RunRules) (report : ReportValue) (place : ℕ) where
     judged = so.judged;
     may_run = so.may_run;
     few = so.few;
+    went_on = so.went_on;
+    goes_on = so.goes_on;
     counted = so.counted;
     scored = so.scored;
     written = so.written;
@@ -160,6 +170,7 @@ module _ (rules : RunRules) (report : ReportValue) (place : ℕ) where
       → HasReported rules report place came next score missed hint output faults
       → length came + 1 < 2 ^ 64
       → (score.tally.pass + 1 < 2 ^ 64) × (score.tally.loose + 1 < 2 ^ 64) × (score.tally.fail + 1 < 2 ^ 64)
+      × (score.failures + 1 < 2 ^ 64)
   reported_room came next score missed hint output faults so fits =
       let outcomes = outcomes_in so.tests in
       let many : length outcomes ≡ length came =
@@ -167,10 +178,14 @@ module _ (rules : RunRules) (report : ReportValue) (place : ℕ) where
       let pass : score.tally.pass ≡ length (filter is_pass outcomes) = ap (λ (t : Score). t.tally.pass) so.scored in
       let loose : score.tally.loose ≡ length (filter is_loose outcomes) =
       ap (λ (t : Score). t.tally.loose) so.scored in
-      let fail : score.tally.fail ≡ length (filter is_fail outcomes) = ap (λ (t : Score). t.tally.fail) so.scored in (
+      let fail : score.tally.fail ≡ length (filter is_fail outcomes) = ap (λ (t : Score). t.tally.fail) so.scored in
+      let failures : score.failures ≡ length (filter (is_failure report) so.tests) =
+      ap (λ (t : Score). t.failures) so.scored in
+      let all : length so.tests ≡ length came = judged_count rules came so.tests so.judged in (
         omega (arith, many, pass, count_within is_pass outcomes, fits),
         omega (arith, many, loose, count_within is_loose outcomes, fits),
         omega (arith, many, fail, count_within is_fail outcomes, fits),
+        omega (arith, all, failures, count_within (is_failure report) so.tests, fits),
       )
 
   -- The next case is judged so: `f` and `g` say whether the fault output has failed before and since, which held `a`,
@@ -191,6 +206,18 @@ module _ (rules : RunRules) (report : ReportValue) (place : ℕ) where
       allowed_then : MayRunEach (max_missed rules.is_limited) (outcomes_in tests_then)
       allowed_then = may_run_then (max_missed rules.is_limited) so.tests case outcome missed so.may_run so.counted
           so.few
+
+      went_on_then : WentOn rules.max_fail report tests_then
+      went_on_then = inr (so.tests, (case, outcome), refl, so.goes_on)
+
+      scored_then : (next : Score) → next ≡ score_with report score (case, outcome) → next ≡ score_of report tests_then
+      scored_then next scored = scored ∙ ap (λ (t : Score). score_with report t (case, outcome)) so.scored
+          ∙ score_more report so.tests case outcome
+
+      missed_few : less ≡ (if is_missed outcome then 1 + missed else 0) → less < max_missed rules.is_limited
+          → missed_at_end (outcomes_in tests_then) < max_missed rules.is_limited
+      missed_few counted few = subst (λ (k : ℕ). k < max_missed rules.is_limited)
+          (missed_then so.tests case outcome missed less so.counted counted) few
 
       noted_then : TellsEach (notes_of rules.progress place tests_then) (record { failed = g; old = a; new = c })
       noted_then =
@@ -218,31 +245,56 @@ module _ (rules : RunRules) (report : ReportValue) (place : ℕ) where
       pub reported_more : (next : Score) (later : HintState) → next ≡ score_with report score (case, outcome)
           → later ≡ hint_with hint outcome
           → less ≡ (if is_missed outcome then 1 + missed else 0) → less < max_missed rules.is_limited
+          → is_enough rules.max_fail next.failures ≡ false
           → Appends mid new (report_text report (case, outcome)) → failed ≡ false
           → HasReported rules report place (came ++ (case, meeting) ∷ []) None next less later
           (record { failed = failed; old = old; new = new }) (record { failed = g; old = a; new = c })
-      reported_more next later scored with_it counted few line works = record {
+      reported_more next later scored with_it counted few goes line works = record {
         tests = tests_then;
         judged = judged_then;
         may_run = allowed_then;
         few = few;
+        went_on = went_on_then;
+        goes_on = subst (λ (t : Score). is_enough rules.max_fail t.failures ≡ false) (scored_then next scored) goes;
         counted = missed_then so.tests case outcome missed less so.counted counted;
-        scored = scored ∙ ap (λ (t : Score). score_with report t (case, outcome)) so.scored
-            ∙ score_more report so.tests case outcome;
+        scored = scored_then next scored;
         written = written_then line;
         works = works;
         noted = noted_then;
         hinted = subst (λ (h : HintState). IsHintState place (outcomes_in tests_then) h) (sym with_it) hinted_then;
       }
 
-      -- it could not be written whole
-      pub report_breaks : AppendsFront mid new (report_text report (case, outcome)) → failed ≡ true
-          → StopsReport rules report place (came ++ (case, meeting) ∷ []) stop.Output
+      -- the same, and with it there are enough failures
+      pub report_enough : (next : Score) → next ≡ score_with report score (case, outcome)
+          → less ≡ (if is_missed outcome then 1 + missed else 0) → less < max_missed rules.is_limited
+          → is_enough rules.max_fail next.failures ≡ true
+          → Appends mid new (report_text report (case, outcome)) → failed ≡ false
+          → StopsReport rules report place (came ++ (case, meeting) ∷ []) next stop.Enough
           (record { failed = failed; old = old; new = new }) (record { failed = g; old = a; new = c })
-      report_breaks begun broken = record {
+      report_enough next scored counted few enough line works = record {
         tests = tests_then;
         judged = judged_then;
         may_run = allowed_then;
+        went_on = went_on_then;
+        noted = noted_then;
+        ends = (
+          works,
+          written_then line,
+          missed_few counted few,
+          subst (λ (t : Score). is_enough rules.max_fail t.failures ≡ true) (scored_then next scored) enough,
+          scored_then next scored,
+        );
+      }
+
+      -- it could not be written whole
+      pub report_breaks : (now : Score) → AppendsFront mid new (report_text report (case, outcome)) → failed ≡ true
+          → StopsReport rules report place (came ++ (case, meeting) ∷ []) now stop.Output
+          (record { failed = failed; old = old; new = new }) (record { failed = g; old = a; new = c })
+      report_breaks now begun broken = record {
+        tests = tests_then;
+        judged = judged_then;
+        may_run = allowed_then;
+        went_on = went_on_then;
         noted = noted_then;
         ends = (
           broken,
@@ -253,15 +305,16 @@ module _ (rules : RunRules) (report : ReportValue) (place : ℕ) where
       }
 
       -- with it as many in a row are without a connection as end a run
-      pub report_misses : (reason : ConnectFault) → outcome ≡ NoConnection reason
+      pub report_misses : (now : Score) (reason : ConnectFault) → outcome ≡ NoConnection reason
           → less ≡ (if is_missed outcome then 1 + missed else 0) → less ≡ max_missed rules.is_limited
           → Appends mid new (report_text report (case, outcome)) → failed ≡ false
-          → StopsReport rules report place (came ++ (case, meeting) ∷ []) (stop.NoConnection reason)
+          → StopsReport rules report place (came ++ (case, meeting) ∷ []) now (stop.NoConnection reason)
           (record { failed = failed; old = old; new = new }) (record { failed = g; old = a; new = c })
-      report_misses reason misses counted most line works = record {
+      report_misses now reason misses counted most line works = record {
         tests = tests_then;
         judged = judged_then;
         may_run = allowed_then;
+        went_on = went_on_then;
         noted = noted_then;
         ends = (
           works,
@@ -275,36 +328,140 @@ module _ (rules : RunRules) (report : ReportValue) (place : ℕ) where
 
 module _ (Meets : Case → Meeting → Type 0) (rules : RunRules) (report : ReportValue) (cases : List Case) where
   -- the reporter has ended it
-  pub run_stopped : (n : ℕ) (came : List (Case × Meeting)) (why : RunStop) (exit : Exit) (output faults : Device)
+  pub run_broken : (n : ℕ) (came : List (Case × Meeting)) (score : Score) (exit : Exit) (output faults : Device)
       → items_of came ≡ take n cases → CameOf (λ (c : Case). c) Meets came
-      → StopsReport rules report (hint_place (length cases)) came why output faults → exit ≡ Failed
+      → StopsReport rules report (hint_place (length cases)) came score stop.Output output faults → exit ≡ Failed
       → RunsCases Meets rules report cases (Ok exit) output faults
-  run_stopped n came stop.Enough exit output faults of met h is = absurd h.ends
-  run_stopped n came stop.Output exit output faults of met h is =
+  run_broken n came score exit output faults of met h is =
       let stops : StopsAtLine Meets rules report cases (notes_of rules.progress (hint_place (length cases)) h.tests) exit output = record {
         n = n;
         tests = h.tests;
         are_tested = judged_tested Meets rules (take n cases) came h.tests of met h.judged;
         may_run = h.may_run;
+        went_on = h.went_on;
         noted = refl;
         failed = (is, h.ends.0);
         begun = h.ends.1;
       } in
       (notes_of rules.progress (hint_place (length cases)) h.tests, inr (inl stops), h.noted)
-  run_stopped n came (stop.NoConnection why) exit output faults of met h is =
+
+  pub run_missed : (n : ℕ) (came : List (Case × Meeting)) (score : Score) (why : ConnectFault) (exit : Exit)
+      (output faults : Device) → items_of came ≡ take n cases → CameOf (λ (c : Case). c) Meets came
+      → StopsReport rules report (hint_place (length cases)) came score (stop.NoConnection why) output faults
+      → exit ≡ Failed → RunsCases Meets rules report cases (Ok exit) output faults
+  run_missed n came score why exit output faults of met h is =
       let (works, written, most, last) = h.ends in
       let stops : StopsAtConnection Meets rules report cases (notes_of rules.progress (hint_place (length cases)) h.tests) exit output = record {
         n = n;
         tests = h.tests;
         are_tested = judged_tested Meets rules (take n cases) came h.tests of met h.judged;
         may_run = h.may_run;
+        went_on = h.went_on;
         missed = most;
         noted = refl;
         ended = (is, works);
         written = written;
       } in
-      (notes_of rules.progress (hint_place (length cases)) h.tests, inr (inr stops), h.noted)
-  run_stopped n came stop.NoMemory exit output faults of met h is = absurd h.ends
+      (notes_of rules.progress (hint_place (length cases)) h.tests, inr (inr (inl stops)), h.noted)
+
+  -- It was stopped behind enough failures, and what the report has behind them was written and told: `f` and `g` say
+  -- whether the fault output had failed before that and since, which held `a`, then `b`, then `c`.
+  run_enough : (n : ℕ) (came : List (Case × Meeting)) (score : Score) (old mid new : Option (List ℕ)) (exit : Exit)
+      (worked failed f g : Bool) (a b c : Option (List ℕ)) → items_of came ≡ take n cases
+      → CameOf (λ (c : Case). c) Meets came
+      → StopsReport rules report (hint_place (length cases)) came score stop.Enough
+      (record { failed = worked; old = old; new = mid }) (record { failed = f; old = a; new = b })
+      → (f ≡ true → g ≡ true)
+      → Delivers (exit_of_report score.is_failed) (end_text report (behind_text report score)) exit
+      (record { failed = failed; old = mid; new = new })
+      → TellsEach (beside_notes report (behind_text report score)) (record { failed = g; old = b; new = c })
+      → RunsCases Meets rules report cases (Ok exit) (record { failed = failed; old = old; new = new })
+      (record { failed = g; old = a; new = c })
+  run_enough n came score old mid new exit worked failed f g a b c of met h still told beside =
+      let (works, written, few, enough, scored) = h.ends in
+      let there = score_of report h.tests in
+      let behind = behind_text report there in
+      let notes = notes_of rules.progress (hint_place (length cases)) h.tests in
+      let stops : StopsAtFailures Meets rules report cases (notes ++ beside_notes report behind) exit
+      (record { failed = failed; old = old; new = new }) = record {
+        n = n;
+        tests = h.tests;
+        are_tested = judged_tested Meets rules (take n cases) came h.tests of met h.judged;
+        may_run = h.may_run;
+        few = few;
+        went_on = h.went_on;
+        enough = enough;
+        noted = refl;
+        told = delivers_after old mid new failed (report_texts report h.tests) (end_text report behind)
+            (exit_of_report there.is_failed) exit written
+            (subst (λ (t : Score). Delivers (exit_of_report t.is_failed) (end_text report (behind_text report t)) exit
+            (record { failed = failed; old = mid; new = new })) scored told);
+      } in (
+        notes ++ beside_notes report behind,
+        inr (inr (inr stops)),
+        noted_next notes (beside_notes report behind) f g a b c still h.noted
+            (subst (λ (t : Score). TellsEach (beside_notes report (behind_text report t))
+            (record { failed = g; old = b; new = c })) scored beside),
+      )
+
+  -- and where memory ran out for that
+  run_lacks_total : (n : ℕ) (came : List (Case × Meeting)) (score : Score) (fault : Fault) (output faults : Device)
+      → items_of came ≡ take n cases → CameOf (λ (c : Case). c) Meets came
+      → StopsReport rules report (hint_place (length cases)) came score stop.Enough output faults → fault ≡ NoMemory
+      → RunsCases Meets rules report cases (Err fault) output faults
+  run_lacks_total n came score fault output faults of met h is =
+      let (works, written, few, enough, scored) = h.ends in
+      let notes = notes_of rules.progress (hint_place (length cases)) h.tests ++ [] in
+      let lacks : LacksMemoryAfter Meets rules report cases notes output = record {
+        n = n;
+        tests = h.tests;
+        are_tested = judged_tested Meets rules (take n cases) came h.tests of met h.judged;
+        may_run = h.may_run;
+        few = few;
+        went_on = h.went_on;
+        next = [];
+        is_next = inl refl;
+        noted = refl;
+        works = works;
+        written = written;
+      } in (
+        notes,
+        (is, lacks),
+        subst (λ (l : List (List ℕ)). TellsEach l faults)
+            (sym (append-nil (notes_of rules.progress (hint_place (length cases)) h.tests))) h.noted,
+      )
+
+  -- nothing was written or told since
+  as_it_was : (ended : Result Exit Fault) (worked failed f g : Bool) (old mid new a b c : Option (List ℕ))
+      → (worked ≡ failed) × (mid ≡ new) → (f ≡ g) × (b ≡ c)
+      → RunsCases Meets rules report cases ended (record { failed = worked; old = old; new = mid })
+      (record { failed = f; old = a; new = b })
+      → RunsCases Meets rules report cases ended (record { failed = failed; old = old; new = new })
+      (record { failed = g; old = a; new = c })
+  as_it_was ended worked failed f g old mid new a b c (as_before, held) (silent, heard) runs =
+      let Runs = λ (w v : Bool) (x y : Option (List ℕ)). RunsCases Meets rules report cases ended
+      (record { failed = w; old = old; new = x }) (record { failed = v; old = a; new = y }) in
+      subst (λ (y : Option (List ℕ)). Runs failed g new y) heard (subst (λ (v : Bool). Runs failed v new b) silent
+      (subst (λ (x : Option (List ℕ)). Runs failed f x b) held (subst (λ (w : Bool). Runs w f mid b) as_before runs)))
+
+  run_enough_told : (n : ℕ) (came : List (Case × Meeting)) (score : Score) (old mid new : Option (List ℕ))
+      (worked failed f g : Bool) (a b c : Option (List ℕ)) (Same Untold : Type 0) (ended : Result Exit Fault)
+      → items_of came ≡ take n cases → CameOf (λ (c : Case). c) Meets came
+      → StopsReport rules report (hint_place (length cases)) came score stop.Enough
+      (record { failed = worked; old = old; new = mid }) (record { failed = f; old = a; new = b })
+      → (Same → (worked ≡ failed) × (mid ≡ new)) → (Untold → (f ≡ g) × (b ≡ c)) → (f ≡ true → g ≡ true)
+      → EndsReporting report score ended Same Untold (record { failed = failed; old = mid; new = new })
+      (record { failed = g; old = b; new = c })
+      → RunsCases Meets rules report cases ended (record { failed = failed; old = old; new = new })
+      (record { failed = g; old = a; new = c })
+  run_enough_told n came score old mid new worked failed f g a b c Same Untold (Ok exit) of met h same untold still
+      (told, beside) =
+      run_enough n came score old mid new exit worked failed f g a b c of met h still told beside
+  run_enough_told n came score old mid new worked failed f g a b c Same Untold (Err fault) of met h same untold still
+      (is, stays, quiet) =
+      as_it_was (Err fault) worked failed f g old mid new a b c (same stays) (untold quiet)
+      (run_lacks_total n came score fault (record { failed = worked; old = old; new = mid })
+      (record { failed = f; old = a; new = b }) of met h is)
 
   -- memory ran out, where the name of the next case may have been told
   pub run_lacks : (n : ℕ) (came : List (Case × Meeting)) (next : Option Case) (score : Score) (missed : ℕ) (hint : HintState)
@@ -320,6 +477,7 @@ module _ (Meets : Case → Meeting → Type 0) (rules : RunRules) (report : Repo
         are_tested = judged_tested Meets rules (take n cases) came so.tests of met so.judged;
         may_run = so.may_run;
         few = subst (λ (k : ℕ). k < max_missed rules.is_limited) so.counted so.few;
+        went_on = so.went_on;
         next = [];
         is_next = inl refl;
         noted = refl;
@@ -339,6 +497,7 @@ module _ (Meets : Case → Meeting → Type 0) (rules : RunRules) (report : Repo
         are_tested = judged_tested Meets rules (take n cases) came so.tests of met so.judged;
         may_run = so.may_run;
         few = subst (λ (k : ℕ). k < max_missed rules.is_limited) so.counted so.few;
+        went_on = so.went_on;
         next = name;
         is_next = inr (case, is_next, refl);
         noted = refl;
@@ -347,81 +506,128 @@ module _ (Meets : Case → Meeting → Type 0) (rules : RunRules) (report : Repo
       } in
       (notes_of rules.progress (hint_place (length cases)) so.tests ++ name, (is, lacks), so.noted)
 
-  -- the sink of a run that was stopped is a reporter that has written and told this
-  pub run_ended : {K : Type 0} (heard : Hearing Case K) (stopped : Stopping Case K) (source : ListValue) (old new : K)
-      (why : RunStop) (ended : Result Exit Fault) (output faults : Device) → source.rest ≡ cases
-      → ((came : List (Case × Meeting)) (next : Option Case) → heard old new came next
-      → (score : Score) × (missed : ℕ) × (hint : HintState) × HasReported rules report (hint_place (length cases)) came next score missed hint output faults)
+  -- Where the run was stopped, the output works if a total is to be written.
+  pub run_works : {K : Type 0} (heard : Hearing Case K) (stopped : Stopping Case K) (source : ListValue) (old new : K)
+      (score : Score) (why : RunStop) (output faults : Device)
       → ((came : List (Case × Meeting)) (w : RunStop) → stopped old new came w
-      → StopsReport rules report (hint_place (length cases)) came w output faults)
-      → StopsRun (λ (c : Case). c) Meets GaveOfList heard stopped source old new why → IsEndOfStop why ended
-      → RunsCases Meets rules report cases ended output faults
-  run_ended heard stopped source old new stop.Enough ended output faults all hears stops h is =
-      absurd (stops h.came stop.Enough h.stops.1).ends
-  run_ended heard stopped source old new stop.Output ended output faults all hears stops h is =
-      subst (λ (e : Result Exit Fault). RunsCases Meets rules report cases e output faults) (sym is)
-      (run_stopped (length (items_of h.came)) h.came stop.Output Failed output faults
-      (front_is cases (items_of h.came) h.last.rest (sym all ∙ h.stops.0.0)) h.met
-      (stops h.came stop.Output h.stops.1) refl)
-  run_ended heard stopped source old new (stop.NoConnection why) ended output faults all hears stops h is =
-      subst (λ (e : Result Exit Fault). RunsCases Meets rules report cases e output faults) (sym is)
-      (run_stopped (length (items_of h.came)) h.came (stop.NoConnection why) Failed output faults
-      (front_is cases (items_of h.came) h.last.rest (sym all ∙ h.stops.0.0)) h.met
-      (stops h.came (stop.NoConnection why) h.stops.1) refl)
-  run_ended heard stopped source old new stop.NoMemory ended output faults all hears stops h is =
-      let (more, next, given, is_next, told) = h.stops in
-      let (score, missed, hint, so) = hears h.came next told in
-      let items = items_of h.came in
-      let whole = sym all ∙ given.0 in
-      subst (λ (e : Result Exit Fault). RunsCases Meets rules report cases e output faults) (sym is)
-      (run_lacks (length items) h.came next score missed hint (Err NoMemory) output faults
-      (front_is cases items (more ++ h.last.rest) (whole ∙ append_assoc items more h.last.rest)) h.met
-      (next_is cases items more h.last.rest next whole is_next) so refl)
+      → StopsReport rules report (hint_place (length cases)) came score w output faults)
+      → StopsRun (λ (c : Case). c) Meets GaveOfList heard stopped source old new why → WorksFor why output.failed
+  run_works heard stopped source old new score stop.Enough output faults stops h =
+      (stops h.came stop.Enough h.stops.1).ends.0
+  run_works heard stopped source old new score stop.Output output faults stops h = tt
+  run_works heard stopped source old new score (stop.NoConnection why) output faults stops h = tt
+  run_works heard stopped source old new score stop.NoMemory output faults stops h = tt
 
-  -- all cases were run, and the total was written
+  -- The sink of a run that was stopped is a reporter that has written and told this, and what is behind them is written
+  -- and told behind enough failures: `Same` and `Untold` say that nothing was written then, and nothing told.
+  module _ (K : Type 0) (heard : Hearing Case K) (stopped : Stopping Case K) (source : ListValue) (before after : K)
+      (score : Score) (old mid new : Option (List ℕ)) (worked failed f g : Bool) (a b c : Option (List ℕ))
+      (Same Untold : Type 0) (all : source.rest ≡ cases)
+      (hears : (came : List (Case × Meeting)) (next : Option Case) → heard before after came next
+      → (counted : Score) × (missed : ℕ) × (hint : HintState) × HasReported rules report (hint_place (length cases)) came
+      next counted missed hint (record { failed = worked; old = old; new = mid }) (record { failed = f; old = a; new = b }))
+      (stops : (came : List (Case × Meeting)) (w : RunStop) → stopped before after came w
+      → StopsReport rules report (hint_place (length cases)) came score w
+      (record { failed = worked; old = old; new = mid }) (record { failed = f; old = a; new = b }))
+      (same : Same → (worked ≡ failed) × (mid ≡ new)) (untold : Untold → (f ≡ g) × (b ≡ c))
+      (still : f ≡ true → g ≡ true) where
+    pub run_ended : (why : RunStop) (ended : Result Exit Fault)
+        → StopsRun (λ (c : Case). c) Meets GaveOfList heard stopped source before after why
+        → IsEndOfStop report score why ended Same Untold (record { failed = failed; old = mid; new = new })
+        (record { failed = g; old = b; new = c })
+        → RunsCases Meets rules report cases ended (record { failed = failed; old = old; new = new })
+        (record { failed = g; old = a; new = c })
+    run_ended stop.Enough ended h is = run_enough_told (length (items_of h.came)) h.came score old mid new worked failed
+        f g a b c Same Untold ended (front_is cases (items_of h.came) h.last.rest (sym all ∙ h.stops.0.0)) h.met
+        (stops h.came stop.Enough h.stops.1) same untold still is
+    run_ended stop.Output ended h (is, stays, quiet) =
+        subst (λ (e : Result Exit Fault). RunsCases Meets rules report cases e
+        (record { failed = failed; old = old; new = new }) (record { failed = g; old = a; new = c })) (sym is)
+        (as_it_was (Ok Failed) worked failed f g old mid new a b c (same stays) (untold quiet)
+        (run_broken (length (items_of h.came)) h.came score Failed (record { failed = worked; old = old; new = mid })
+        (record { failed = f; old = a; new = b })
+        (front_is cases (items_of h.came) h.last.rest (sym all ∙ h.stops.0.0)) h.met
+        (stops h.came stop.Output h.stops.1) refl))
+    run_ended (stop.NoConnection why) ended h (is, stays, quiet) =
+        subst (λ (e : Result Exit Fault). RunsCases Meets rules report cases e
+        (record { failed = failed; old = old; new = new }) (record { failed = g; old = a; new = c })) (sym is)
+        (as_it_was (Ok Failed) worked failed f g old mid new a b c (same stays) (untold quiet)
+        (run_missed (length (items_of h.came)) h.came score why Failed (record { failed = worked; old = old; new = mid })
+        (record { failed = f; old = a; new = b })
+        (front_is cases (items_of h.came) h.last.rest (sym all ∙ h.stops.0.0)) h.met
+        (stops h.came (stop.NoConnection why) h.stops.1) refl))
+    run_ended stop.NoMemory ended h (is, stays, quiet) =
+        let (more, next, given, is_next, told) = h.stops in
+        let (counted, missed, hint, so) = hears h.came next told in
+        let items = items_of h.came in
+        let whole = sym all ∙ given.0 in
+        subst (λ (e : Result Exit Fault). RunsCases Meets rules report cases e
+        (record { failed = failed; old = old; new = new }) (record { failed = g; old = a; new = c })) (sym is)
+        (as_it_was (Err NoMemory) worked failed f g old mid new a b c (same stays) (untold quiet)
+        (run_lacks (length items) h.came next counted missed hint (Err NoMemory)
+        (record { failed = worked; old = old; new = mid }) (record { failed = f; old = a; new = b })
+        (front_is cases items (more ++ h.last.rest) (whole ∙ append_assoc items more h.last.rest)) h.met
+        (next_is cases items more h.last.rest next whole is_next) so refl))
+
+  -- All cases were run, and what the report has behind them was written and told: `f` and `g` say whether the fault
+  -- output had failed before that and since, which held `a`, then `b`, then `c`.
   run_all : (came : List (Case × Meeting)) (score : Score) (missed : ℕ) (hint : HintState) (old mid new : Option (List ℕ)) (exit : Exit)
-      (worked failed : Bool) (faults : Device) → items_of came ≡ cases → CameOf (λ (c : Case). c) Meets came
-      → HasReported rules report (hint_place (length cases)) came None score missed hint (record { failed = worked; old = old; new = mid }) faults
-      → Delivers (exit_of_report score.is_failed) (end_text report (total_line score.tally)) exit
+      (worked failed f g : Bool) (a b c : Option (List ℕ)) → items_of came ≡ cases → CameOf (λ (c : Case). c) Meets came
+      → HasReported rules report (hint_place (length cases)) came None score missed hint (record { failed = worked; old = old; new = mid })
+      (record { failed = f; old = a; new = b })
+      → (f ≡ true → g ≡ true)
+      → Delivers (exit_of_report score.is_failed) (end_text report (behind_text report score)) exit
       (record { failed = failed; old = mid; new = new })
-      → RunsCases Meets rules report cases (Ok exit) (record { failed = failed; old = old; new = new }) faults
-  run_all came score missed hint old mid new exit worked failed faults of met so told =
+      → TellsEach (beside_notes report (behind_text report score)) (record { failed = g; old = b; new = c })
+      → RunsCases Meets rules report cases (Ok exit) (record { failed = failed; old = old; new = new })
+      (record { failed = g; old = a; new = c })
+  run_all came score missed hint old mid new exit worked failed f g a b c of met so still told beside =
       let there = score_of report so.tests in
-      let tells : TellsAll Meets rules report cases (notes_of rules.progress (hint_place (length cases)) so.tests) exit
+      let behind = behind_text report there in
+      let notes = notes_of rules.progress (hint_place (length cases)) so.tests in
+      let tells : TellsAll Meets rules report cases (notes ++ beside_notes report behind) exit
       (record { failed = failed; old = old; new = new }) = record {
         tests = so.tests;
         are_tested = judged_tested Meets rules cases came so.tests of met so.judged;
         may_run = so.may_run;
         few = subst (λ (k : ℕ). k < max_missed rules.is_limited) so.counted so.few;
+        goes_on = so.goes_on;
         noted = refl;
-        told = delivers_after old mid new failed (report_texts report so.tests)
-            (end_text report (total_line there.tally)) (exit_of_report there.is_failed) exit so.written
-            (subst (λ (t : Score). Delivers (exit_of_report t.is_failed) (end_text report (total_line t.tally)) exit
+        told = delivers_after old mid new failed (report_texts report so.tests) (end_text report behind)
+            (exit_of_report there.is_failed) exit so.written
+            (subst (λ (t : Score). Delivers (exit_of_report t.is_failed) (end_text report (behind_text report t)) exit
             (record { failed = failed; old = mid; new = new })) so.scored told);
-      } in
-      (notes_of rules.progress (hint_place (length cases)) so.tests, inl tells, so.noted)
+      } in (
+        notes ++ beside_notes report behind,
+        inl tells,
+        noted_next notes (beside_notes report behind) f g a b c still so.noted
+            (subst (λ (t : Score). TellsEach (beside_notes report (behind_text report t))
+            (record { failed = g; old = b; new = c })) so.scored beside),
+      )
 
-  -- after the total, or where memory ran out for it: `Same` says that nothing was written then
+  -- or memory ran out for it: `Same` and `Untold` say that nothing was written then, and nothing told
   pub run_told : (came : List (Case × Meeting)) (score : Score) (missed : ℕ) (hint : HintState) (old mid new : Option (List ℕ))
-      (worked failed : Bool) (faults : Device) (Same : Type 0) (ended : Result Exit Fault) → items_of came ≡ cases
-      → CameOf (λ (c : Case). c) Meets came
-      → HasReported rules report (hint_place (length cases)) came None score missed hint (record { failed = worked; old = old; new = mid }) faults
-      → (Same → (worked ≡ failed) × (mid ≡ new))
-      → MatchResult ended
-      (λ exit. Delivers (exit_of_report score.is_failed) (end_text report (total_line score.tally)) exit
-      (record { failed = failed; old = mid; new = new }))
-      (λ fault. (fault ≡ NoMemory) × Same)
-      → RunsCases Meets rules report cases ended (record { failed = failed; old = old; new = new }) faults
-  run_told came score missed hint old mid new worked failed faults Same (Ok exit) of met so same told =
-      run_all came score missed hint old mid new exit worked failed faults of met so told
-  run_told came score missed hint old mid new worked failed faults Same (Err fault) of met so same (is, stays) =
+      (worked failed f g : Bool) (a b c : Option (List ℕ)) (Same Untold : Type 0) (ended : Result Exit Fault)
+      → items_of came ≡ cases → CameOf (λ (c : Case). c) Meets came
+      → HasReported rules report (hint_place (length cases)) came None score missed hint (record { failed = worked; old = old; new = mid })
+      (record { failed = f; old = a; new = b })
+      → (Same → (worked ≡ failed) × (mid ≡ new)) → (Untold → (f ≡ g) × (b ≡ c)) → (f ≡ true → g ≡ true)
+      → EndsReporting report score ended Same Untold (record { failed = failed; old = mid; new = new })
+      (record { failed = g; old = b; new = c })
+      → RunsCases Meets rules report cases ended (record { failed = failed; old = old; new = new })
+      (record { failed = g; old = a; new = c })
+  run_told came score missed hint old mid new worked failed f g a b c Same Untold (Ok exit) of met so same untold still (told, beside) =
+      run_all came score missed hint old mid new exit worked failed f g a b c of met so still told beside
+  run_told came score missed hint old mid new worked failed f g a b c Same Untold (Err fault) of met so same untold still (is, stays, quiet) =
       let (as_before, held) = same stays in
+      let (silent, heard) = untold quiet in
+      let Reports = λ (w v : Bool) (x y : Option (List ℕ)). HasReported rules report (hint_place (length cases)) came
+      None score missed hint (record { failed = w; old = old; new = x }) (record { failed = v; old = a; new = y }) in
       run_lacks (length cases) came None score missed hint (Err fault) (record { failed = failed; old = old; new = new })
-      faults (of ∙ sym (take_all (length cases) cases (omega arith))) met tt
-      (subst (λ (x : Option (List ℕ)). HasReported rules report (hint_place (length cases)) came None score missed hint
-      (record { failed = failed; old = old; new = x }) faults) held
-      (subst (λ (w : Bool). HasReported rules report (hint_place (length cases)) came None score missed hint
-      (record { failed = w; old = old; new = mid }) faults) as_before so)) is
+      (record { failed = g; old = a; new = c }) (of ∙ sym (take_all (length cases) cases (omega arith))) met tt
+      (subst (λ (y : Option (List ℕ)). Reports failed g new y) heard (subst (λ (v : Bool). Reports failed v new b) silent
+      (subst (λ (x : Option (List ℕ)). Reports failed f x b) held (subst (λ (w : Bool). Reports w f mid b) as_before so))))
+      is
 
 -- one case more is one in a row more at most
 pub missed_bound : (b : Bool) (missed next : ℕ) → next ≡ (if b then 1 + missed else 0) → next ≤ 1 + missed

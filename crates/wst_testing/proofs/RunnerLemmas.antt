@@ -1,7 +1,7 @@
 -- What was run one after the other, and what a sink was told of it.
 use Rattle.std.specs.Prelude.{⊤}
 use Rattle.std.proofs.Common.{◌≡◌, ◌∙◌, ◌+◌, ◌<◌, ◌^◌, ℕ, Bool, true, List, [], ◌∷◌, ◌++◌, Option, None, Some, Result, Ok, Err}
-use Rattle.std.proofs.Common.{IsErrAnd, append-nil, append_assoc, ap, arith, length, map, refl, sym, subst, take}
+use Rattle.std.proofs.Common.{IsErrAnd, append_assoc, ap, arith, length, refl, sym, subst, take}
 use Rattle.std.proofs.Math.Seq.{take-append-add, take-append_seam}
 use Rattle.std.proofs.lemmas.List.{length-append, length-map, map-append}
 use Rattle.ws_wire.proofs.Splits.{all-append}

@@ -21,7 +21,9 @@ use Rattle.wst_commands.specs.declared.exit.Exit.{Exit}
 use Rattle.wst_testing.specs.Outcomes.{exit_of_tests, is_fail, is_loose, is_pass, no_tally, tally_of, tally_with}
 use Rattle.wst_testing.specs.Runner.{CameOf, Hearing, RunsEach, Stopping, items_of}
 use Rattle.wst_testing.specs.Testing.{IsOutcomeOf}
-use Rattle.wst_testing.specs.Sweeps.{AreJudgedScripts, AreShortRuns, AreSwept, CountsScripts, EndsScripts, GaveAllScripts}
+use Rattle.wst_testing.specs.Failures.{is_enough}
+use Rattle.wst_testing.specs.Sweeps.{AreJudgedScripts, AreShortRuns, AreSwept, CountsScripts, EndsByFails, EndsScripts}
+use Rattle.wst_testing.specs.Sweeps.{EndsSweep, GaveAllScripts, is_enough_in}
 use Rattle.wst_testing.specs.Sweeps.{GaveScripts, HasSwept, HasToldScripts, IsCounted, IsNextSwept, IsShortRun, IsSwept}
 use Rattle.wst_testing.specs.Sweeps.{MakesCasesOf, ShortRunValue, ShortRunsValue, StopsAtScript, StopsBehind, StopsSweep}
 use Rattle.wst_testing.specs.Sweeps.{SweepsAll, SweepsScripts, SweptScript, case_rules, missed_by, outcomes_of}
@@ -35,6 +37,7 @@ use Rattle.wst_testing.specs.declared.sweeping.SweepRules.{SweepRules}
 use Rattle.wst_testing.specs.declared.runner.RunStop.{RunStop}
 use Rattle.wst_testing.specs.declared.runner.RunStop.TheVariants as stop
 use Rattle.ws_sweep.proofs.Numbers.{count_within}
+use Rattle.wst_testing.proofs.ReporterLemmas.{none_enough}
 use Rattle.wst_testing.proofs.TestLemmas.{tally_more, then_begun}
 
 -- what was written is still there
@@ -203,32 +206,88 @@ missed_so (NoConnection why) reason is = ap (λ (o : Option ConnectFault). NoCon
 missed_so NotRun reason is = absurd cc
 
 pub told_nothing : (rules : SweepRules) (tally : Tally) (held : Option (List ℕ)) (failed : Bool) → tally ≡ no_tally
-    → failed ≡ false → HasToldScripts rules [] tally (record { failed = failed; old = held; new = held })
-told_nothing rules tally held failed empty works =
-    record { scripts = []; judged = tt; counted = empty; written = Appends-nil held; works = works }
+    → failed ≡ false → HasToldScripts rules [] 0 tally (record { failed = failed; old = held; new = held })
+told_nothing rules tally held failed empty works = record {
+  scripts = [];
+  judged = tt;
+  many = refl;
+  goes_on = none_enough rules.max_fail;
+  counted = empty;
+  written = Appends-nil held;
+  works = works;
+}
+
+-- one script more
+longer : {X : Type 0} (count next : ℕ) (xs : List X) (x : X) → count ≡ length xs → next ≡ count + 1
+    → next ≡ length (xs ++ x ∷ [])
+longer count next xs x many is = is ∙ ap (λ (n : ℕ). n + 1) many ∙ sym (length-append xs (x ∷ []))
 
 module _ (rules : SweepRules) (came : List (ShortRunValue × Meeting)) (run : ShortRunValue) (meeting : Meeting)
-    (outcome : Outcome) (tally : Tally) (old mid new : Option (List ℕ)) (f g : Bool)
-    (so : HasToldScripts rules came tally (record { failed = f; old = old; new = mid }))
+    (outcome : Outcome) (count : ℕ) (tally : Tally) (old mid new : Option (List ℕ)) (f g : Bool)
+    (so : HasToldScripts rules came count tally (record { failed = f; old = old; new = mid }))
     (is : IsOutcomeOf (case_rules rules) meeting outcome) where
+  counted_then : (next : Tally) → next ≡ tally_with tally outcome
+      → next ≡ tally_of (outcomes_of (so.scripts ++ swept run.places run.case outcome ∷ []))
+  counted_then next counts = counts ∙ (ap (λ (t : Tally). tally_with t outcome) so.counted
+      ∙ counted_with so.scripts (swept run.places run.case outcome))
+
+  enough_then : (next : Tally) (b : Bool) → next ≡ tally_with tally outcome → is_enough rules.max_fail next.fail ≡ b
+      → is_enough_in rules (so.scripts ++ swept run.places run.case outcome ∷ []) ≡ b
+  enough_then next b counts enough =
+      subst (λ (t : Tally). is_enough rules.max_fail t.fail ≡ b) (counted_then next counts) enough
+
+  written_then : Appends mid new (script_line rules (swept run.places run.case outcome))
+      → Appends old new (sweep_lines rules (so.scripts ++ swept run.places run.case outcome ∷ []))
+  written_then line =
+      subst (λ (l : List ℕ). Appends old new l) (lines_with rules so.scripts (swept run.places run.case outcome))
+      (Appends-trans old mid new (sweep_lines rules so.scripts)
+      (script_line rules (swept run.places run.case outcome)) so.written line)
+
   -- the line of the next script was written
-  pub told_one_more : (next : Tally) → next ≡ tally_with tally outcome → missed_by outcome ≡ None
+  pub told_one_more : (next : Tally) (more : ℕ) → next ≡ tally_with tally outcome → more ≡ count + 1
+      → is_enough rules.max_fail next.fail ≡ false → missed_by outcome ≡ None
       → Appends mid new (script_line rules (swept run.places run.case outcome)) → g ≡ false
-      → HasToldScripts rules (came ++ (run, meeting) ∷ []) next (record { failed = g; old = old; new = new })
-  told_one_more next counts there line works = record {
+      → HasToldScripts rules (came ++ (run, meeting) ∷ []) more next (record { failed = g; old = old; new = new })
+  told_one_more next more counts one goes there line works = record {
     scripts = so.scripts ++ swept run.places run.case outcome ∷ [];
     judged = judged_one_more rules came so.scripts run meeting outcome so.judged is there;
-    counted = counts ∙ (ap (λ (t : Tally). tally_with t outcome) so.counted
-        ∙ counted_with so.scripts (swept run.places run.case outcome));
-    written = subst (λ (l : List ℕ). Appends old new l) (lines_with rules so.scripts (swept run.places run.case outcome))
-        (Appends-trans old mid new (sweep_lines rules so.scripts)
-        (script_line rules (swept run.places run.case outcome)) so.written line);
+    many = longer count more so.scripts (swept run.places run.case outcome) so.many one;
+    goes_on = enough_then next false counts goes;
+    counted = counted_then next counts;
+    written = written_then line;
     works = works;
+  }
+
+  -- the same, and there are enough Fails
+  pub enough_told : (next : Tally) (more : ℕ) → next ≡ tally_with tally outcome → more ≡ count + 1
+      → is_enough rules.max_fail next.fail ≡ true → missed_by outcome ≡ None
+      → Appends mid new (script_line rules (swept run.places run.case outcome)) → g ≡ false
+      → StopsAtScript rules (came ++ (run, meeting) ∷ []) more next stop.Enough
+      (record { failed = g; old = old; new = new })
+  enough_told next more counts one enough there line works = record {
+    before = came;
+    run = run;
+    meeting = meeting;
+    last = refl;
+    scripts = so.scripts;
+    judged = so.judged;
+    goes_on = so.goes_on;
+    outcome = outcome;
+    is = is;
+    ends = (
+      there,
+      longer count more so.scripts (swept run.places run.case outcome) so.many one,
+      counted_then next counts,
+      enough_then next true counts enough,
+      written_then line,
+      works,
+    );
   }
 
   -- it could not be written whole
   pub line_breaks : AppendsFront mid new (script_line rules (swept run.places run.case outcome)) → g ≡ true
-      → StopsAtScript rules (came ++ (run, meeting) ∷ []) stop.Output (record { failed = g; old = old; new = new })
+      → StopsAtScript rules (came ++ (run, meeting) ∷ []) count tally stop.Output
+      (record { failed = g; old = old; new = new })
   line_breaks begun broken = record {
     before = came;
     run = run;
@@ -236,6 +295,7 @@ module _ (rules : SweepRules) (came : List (ShortRunValue × Meeting)) (run : Sh
     last = refl;
     scripts = so.scripts;
     judged = so.judged;
+    goes_on = so.goes_on;
     outcome = outcome;
     is = is;
     ends = (
@@ -247,7 +307,7 @@ module _ (rules : SweepRules) (came : List (ShortRunValue × Meeting)) (run : Sh
 
   -- there is no connection to its end
   pub script_misses : (reason : ConnectFault) → missed_by outcome ≡ Some reason
-      → StopsAtScript rules (came ++ (run, meeting) ∷ []) (stop.NoConnection reason)
+      → StopsAtScript rules (came ++ (run, meeting) ∷ []) count tally (stop.NoConnection reason)
       (record { failed = f; old = old; new = mid })
   script_misses reason misses = record {
     before = came;
@@ -256,81 +316,119 @@ module _ (rules : SweepRules) (came : List (ShortRunValue × Meeting)) (run : Sh
     last = refl;
     scripts = so.scripts;
     judged = so.judged;
+    goes_on = so.goes_on;
     outcome = outcome;
     is = is;
     ends = (missed_so outcome reason misses, so.written);
   }
 
 -- there is room for one outcome more in its counts
-pub script_room : (rules : SweepRules) (came : List (ShortRunValue × Meeting)) (tally : Tally) (output : Device)
-    → HasToldScripts rules came tally output → length came + 1 < 2 ^ 64
-    → (tally.pass + 1 < 2 ^ 64) × (tally.loose + 1 < 2 ^ 64) × (tally.fail + 1 < 2 ^ 64)
-script_room rules came tally output so fits =
+pub script_room : (rules : SweepRules) (came : List (ShortRunValue × Meeting)) (count : ℕ) (tally : Tally)
+    (output : Device) → HasToldScripts rules came count tally output → length came + 1 < 2 ^ 64
+    → (tally.pass + 1 < 2 ^ 64) × (tally.loose + 1 < 2 ^ 64) × (tally.fail + 1 < 2 ^ 64) × (count + 1 < 2 ^ 64)
+script_room rules came count tally output so fits =
     let outcomes = outcomes_of so.scripts in
     let many : length outcomes ≡ length came =
     length-map so.scripts (λ (s : SweptScript). s.outcome) ∙ judged_many rules came so.scripts so.judged in
     let pass : tally.pass ≡ length (filter is_pass outcomes) = ap (λ (t : Tally). t.pass) so.counted in
     let loose : tally.loose ≡ length (filter is_loose outcomes) = ap (λ (t : Tally). t.loose) so.counted in
-    let fail : tally.fail ≡ length (filter is_fail outcomes) = ap (λ (t : Tally). t.fail) so.counted in (
+    let fail : tally.fail ≡ length (filter is_fail outcomes) = ap (λ (t : Tally). t.fail) so.counted in
+    let all : count ≡ length came = so.many ∙ judged_many rules came so.scripts so.judged in (
       omega (arith, many, pass, kind_within is_pass outcomes, fits),
       omega (arith, many, loose, kind_within is_loose outcomes, fits),
       omega (arith, many, fail, kind_within is_fail outcomes, fits),
+      omega (arith, all, fits),
     )
 
 -- ---- how a run of them ends
 
 module _ (Meets : Case → Meeting → Type 0) (rules : SweepRules) where
   -- why the run stops behind these scripts
-  behind : (scripts : List SweptScript) (next : SweptScript) (why : RunStop) (output : Device)
-      → IsNextSwept Meets rules scripts next → EndsScripts rules scripts next why output
-      → StopsBehind Meets rules scripts why output
-  behind scripts next stop.Enough output is ends = absurd ends
-  behind scripts next stop.Output output is (broken, begun) =
+  behind_break : (scripts : List SweptScript) (next : SweptScript) (count : ℕ) (tally : Tally) (output : Device)
+      → IsNextSwept Meets rules scripts next → EndsScripts rules scripts next count tally stop.Output output
+      → StopsBehind Meets rules scripts stop.Output output
+  behind_break scripts next count tally output is (broken, begun) =
       (script_line rules next, inl (next, is, refl), broken, begun)
-  behind scripts next (stop.NoConnection why) output is (misses, written) = ((next, is, misses), written)
-  behind scripts next stop.NoMemory output is ends = absurd ends
+
+  behind_miss : (scripts : List SweptScript) (next : SweptScript) (count : ℕ) (tally : Tally) (why : ConnectFault)
+      (output : Device) → IsNextSwept Meets rules scripts next
+      → EndsScripts rules scripts next count tally (stop.NoConnection why) output
+      → StopsBehind Meets rules scripts (stop.NoConnection why) output
+  behind_miss scripts next count tally why output is (misses, written) = ((next, is, misses), written)
+
+  -- one more was run in its order
+  swept_more : (number : ℕ) (scripts : List SweptScript) (next : SweptScript) → AreSwept Meets rules number scripts
+      → ArePlaces next.places → script_number next.places ≡ number + length scripts → missed_by next.outcome ≡ None
+      → IsSwept Meets rules next → AreSwept Meets rules number (scripts ++ next ∷ [])
+  swept_more number [] next are places is there so = (places, is ∙ omega arith, there, so, tt)
+  swept_more number (script ∷ scripts) next (at, numbered, connected, one, rest) places is there so =
+      let later : script_number next.places ≡ number + 1 + length scripts = is ∙ omega arith in
+      (at, numbered, connected, one, swept_more (number + 1) scripts next rest places later there so)
+
+  -- the scripts before the last one, and that
+  abbrev StoppedAt : List SweptScript → SweptScript → Type 0
+  StoppedAt scripts next = AreSwept Meets rules 0 scripts × IsNextSwept Meets rules scripts next
 
   -- the sink has ended it
-  stopped_at : (came : List (ShortRunValue × Meeting)) (why : RunStop) (output : Device)
-      → AreShortRuns rules 0 (items_of came) → CameOf run_case Meets came → StopsAtScript rules came why output
-      → StopsSweep Meets rules why output
-  stopped_at came why output are met h =
+  stopped_at : (came : List (ShortRunValue × Meeting)) (count : ℕ) (tally : Tally) (why : RunStop) (output : Device)
+      → AreShortRuns rules 0 (items_of came) → CameOf run_case Meets came
+      → (h : StopsAtScript rules came count tally why output)
+      → StoppedAt h.scripts (swept h.run.places h.run.case h.outcome)
+  stopped_at came count tally why output are met h =
       let parts = last_apart Meets rules 0 h.before h.run h.meeting
       (subst (λ (l : List (ShortRunValue × Meeting)). AreShortRuns rules 0 (items_of l)) h.last are)
       (subst (λ (l : List (ShortRunValue × Meeting)). CameOf run_case Meets l) h.last met) in
       let ((before, came_before), (is_run, met_last)) = parts in
       let next = swept h.run.places h.run.case h.outcome in
-      let number = is_run.1 ∙ none_before (length h.before) ∙ sym (judged_many rules h.before h.scripts h.judged) in
-      record {
-        scripts = h.scripts;
-        in_order = all_swept Meets rules 0 h.before h.scripts before came_before h.judged;
-        stops = behind h.scripts next why output
-            (is_run.0, number, swept_so Meets rules _ h.run h.meeting h.outcome is_run met_last h.is) h.ends;
-      }
+      let number = is_run.1 ∙ none_before (length h.before) ∙ sym (judged_many rules h.before h.scripts h.judged) in (
+        all_swept Meets rules 0 h.before h.scripts before came_before h.judged,
+        (is_run.0, number, swept_so Meets rules _ h.run h.meeting h.outcome is_run met_last h.is, h.goes_on),
+      )
+
+  -- it has ended it by Fails
+  fails_at : (came : List (ShortRunValue × Meeting)) (count : ℕ) (tally : Tally) (output : Device)
+      → AreShortRuns rules 0 (items_of came) → CameOf run_case Meets came
+      → StopsAtScript rules came count tally stop.Enough output
+      → HasSwept Meets rules count tally output × (output.failed ≡ false)
+  fails_at came count tally output are met h =
+      let next = swept h.run.places h.run.case h.outcome in
+      let (before, (places, number, so, goes)) = stopped_at came count tally stop.Enough output are met h in
+      let (there, many, counted, enough, written, works) = h.ends in (
+        record {
+          scripts = h.scripts ++ next ∷ [];
+          in_order = swept_more 0 h.scripts next before places (number ∙ sym (none_before (length h.scripts))) there so;
+          many = sym many;
+          all = inr (h.scripts, next, refl, h.goes_on, enough);
+          counted = counted;
+          written = written;
+        },
+        works,
+      )
 
   pub scripts_ended : {K : Type 0} (heard : Hearing ShortRunValue K) (stopped : Stopping ShortRunValue K)
-      (source : ShortRunsValue) (old new : K) (run : Result (Unit {0}) RunStop) (tally : Tally)
-      (ended : Result Tally RunStop) (output : Device)
+      (source : ShortRunsValue) (old new : K) (run : Result (Unit {0}) RunStop) (count : ℕ) (tally : Tally)
+      (ended : Result (ℕ × Tally) RunStop) (output : Device)
       → ((came : List (ShortRunValue × Meeting)) (next : Option ShortRunValue) → heard old new came next
-      → HasToldScripts rules came tally output)
+      → HasToldScripts rules came count tally output)
       → ((came : List (ShortRunValue × Meeting)) (w : RunStop) → stopped old new came w
-      → StopsAtScript rules came w output)
+      → StopsAtScript rules came count tally w output)
       → source.rules ≡ rules
       → RunsEach run_case Meets GaveScripts (λ start now runs. GaveAllScripts start runs) heard stopped source old new run
-      → IsCounted run tally ended → CountsScripts Meets rules ended output
-  scripts_ended heard stopped source old new (Ok _) tally ended output hears stops same h is =
+      → IsCounted run count tally ended → CountsScripts Meets rules ended output
+  scripts_ended heard stopped source old new (Ok _) count tally ended output hears stops same h is =
       let so = hears h.came None h.told in
       let given = subst (λ (r : SweepRules). AreShortRuns r 0 (items_of h.came)
       × (length (items_of h.came) ≡ count_of_scripts r.steps)) same h.given in
-      let swept_all : HasSwept Meets rules (count_of_scripts rules.steps) tally output = record {
+      let swept_all : HasSwept Meets rules count tally output = record {
         scripts = so.scripts;
         in_order = all_swept Meets rules 0 h.came so.scripts given.0 h.met so.judged;
-        many = judged_many rules h.came so.scripts so.judged ∙ sym (many_items h.came) ∙ given.1;
+        many = sym so.many;
+        all = inl (judged_many rules h.came so.scripts so.judged ∙ sym (many_items h.came) ∙ given.1, so.goes_on);
         counted = so.counted;
         written = so.written;
       } in
-      subst (λ (e : Result Tally RunStop). CountsScripts Meets rules e output) (sym is) (swept_all, so.works)
-  scripts_ended heard stopped source old new (Err stop.NoMemory) tally ended output hears stops same h is =
+      subst (λ (e : Result (ℕ × Tally) RunStop). CountsScripts Meets rules e output) (sym is) (swept_all, so.works)
+  scripts_ended heard stopped source old new (Err stop.NoMemory) count tally ended output hears stops same h is =
       let (more, next, given, is_next, told) = h.stops in
       let so = hears h.came next told in
       let are = subst (λ (r : SweepRules). AreShortRuns r 0 (items_of h.came)) same
@@ -340,17 +438,34 @@ module _ (Meets : Case → Meeting → Type 0) (rules : SweepRules) where
         in_order = all_swept Meets rules 0 h.came so.scripts are h.met so.judged;
         stops = so.written;
       } in
-      subst (λ (e : Result Tally RunStop). CountsScripts Meets rules e output) (sym is) lacks
-  scripts_ended heard stopped source old new (Err stop.Enough) tally ended output hears stops same h is =
-      absurd (stops h.came stop.Enough h.stops.1).ends
-  scripts_ended heard stopped source old new (Err stop.Output) tally ended output hears stops same h is =
+      subst (λ (e : Result (ℕ × Tally) RunStop). CountsScripts Meets rules e output) (sym is) lacks
+  scripts_ended heard stopped source old new (Err stop.Enough) count tally ended output hears stops same h is =
       let are = subst (λ (r : SweepRules). AreShortRuns r 0 (items_of h.came)) same h.stops.0.in_order in
-      subst (λ (e : Result Tally RunStop). CountsScripts Meets rules e output) (sym is)
-      (stopped_at h.came stop.Output output are h.met (stops h.came stop.Output h.stops.1))
-  scripts_ended heard stopped source old new (Err (stop.NoConnection why)) tally ended output hears stops same h is =
+      subst (λ (e : Result (ℕ × Tally) RunStop). CountsScripts Meets rules e output) (sym is)
+      (fails_at h.came count tally output are h.met (stops h.came stop.Enough h.stops.1))
+  scripts_ended heard stopped source old new (Err stop.Output) count tally ended output hears stops same h is =
       let are = subst (λ (r : SweepRules). AreShortRuns r 0 (items_of h.came)) same h.stops.0.in_order in
-      subst (λ (e : Result Tally RunStop). CountsScripts Meets rules e output) (sym is)
-      (stopped_at h.came (stop.NoConnection why) output are h.met (stops h.came (stop.NoConnection why) h.stops.1))
+      let last = stops h.came stop.Output h.stops.1 in
+      let (before, next) = stopped_at h.came count tally stop.Output output are h.met last in
+      let breaks : StopsSweep Meets rules stop.Output output = record {
+        scripts = last.scripts;
+        in_order = before;
+        stops = behind_break last.scripts (swept last.run.places last.run.case last.outcome) count tally output next
+            last.ends;
+      } in
+      subst (λ (e : Result (ℕ × Tally) RunStop). CountsScripts Meets rules e output) (sym is) breaks
+  scripts_ended heard stopped source old new (Err (stop.NoConnection why)) count tally ended output hears stops same h
+      is =
+      let are = subst (λ (r : SweepRules). AreShortRuns r 0 (items_of h.came)) same h.stops.0.in_order in
+      let last = stops h.came (stop.NoConnection why) h.stops.1 in
+      let (before, next) = stopped_at h.came count tally (stop.NoConnection why) output are h.met last in
+      let misses : StopsSweep Meets rules (stop.NoConnection why) output = record {
+        scripts = last.scripts;
+        in_order = before;
+        stops = behind_miss last.scripts (swept last.run.places last.run.case last.outcome) count tally why output next
+            last.ends;
+      } in
+      subst (λ (e : Result (ℕ × Tally) RunStop). CountsScripts Meets rules e output) (sym is) misses
 
 -- ---- all of them
 
@@ -371,35 +486,35 @@ total_is Meets rules count tally d all =
     ap (λ (n : ℕ). sweep_total n tally) (sym all.many)
     ∙ ap (λ (t : Tally). sweep_total (length all.scripts) t) all.counted
 
-pub total_fails : (Meets : Case → Meeting → Type 0) (rules : SweepRules) (tally : Tally) (text : List ℕ)
+pub total_fails : (Meets : Case → Meeting → Type 0) (rules : SweepRules) (count : ℕ) (tally : Tally) (text : List ℕ)
     (old mid new : Option (List ℕ)) (f g : Bool)
-    → HasSwept Meets rules (count_of_scripts rules.steps) tally (record { failed = f; old = old; new = mid })
-    → text ≡ sweep_total (count_of_scripts rules.steps) tally → g ≡ true → AppendsFront mid new text
+    → HasSwept Meets rules count tally (record { failed = f; old = old; new = mid })
+    → text ≡ sweep_total count tally → g ≡ true → AppendsFront mid new text
     → StopsSweep Meets rules stop.Output (record { failed = g; old = old; new = new })
-total_fails Meets rules tally text old mid new f g all is fails begun =
-    let total = is ∙ total_is Meets rules (count_of_scripts rules.steps) tally _ all in
+total_fails Meets rules count tally text old mid new f g all is fails begun =
+    let total = is ∙ total_is Meets rules count tally _ all in
     record {
       scripts = all.scripts;
       in_order = all.in_order;
       stops = (
         text,
-        inr (all.many, total),
+        inr (all.all, total),
         fails,
         then_begun old mid new (sweep_lines rules all.scripts) text all.written begun,
       );
     }
 
-pub total_told : (Meets : Case → Meeting → Type 0) (rules : SweepRules) (tally : Tally) (text : List ℕ) (exit : Exit)
-    (old mid new : Option (List ℕ)) (f g : Bool)
-    → HasSwept Meets rules (count_of_scripts rules.steps) tally (record { failed = f; old = old; new = mid })
-    → text ≡ sweep_total (count_of_scripts rules.steps) tally → g ≡ false → Appends mid new text
+pub total_told : (Meets : Case → Meeting → Type 0) (rules : SweepRules) (count : ℕ) (tally : Tally) (text : List ℕ)
+    (exit : Exit) (old mid new : Option (List ℕ)) (f g : Bool)
+    → HasSwept Meets rules count tally (record { failed = f; old = old; new = mid })
+    → text ≡ sweep_total count tally → g ≡ false → Appends mid new text
     → exit ≡ exit_of_tests tally → SweepsAll Meets rules exit (record { failed = g; old = old; new = new })
-total_told Meets rules tally text exit old mid new f g all is works written is_exit =
-    let total = is ∙ total_is Meets rules (count_of_scripts rules.steps) tally _ all in
+total_told Meets rules count tally text exit old mid new f g all is works written is_exit =
+    let total = is ∙ total_is Meets rules count tally _ all in
     record {
       scripts = all.scripts;
       in_order = all.in_order;
-      all = all.many;
+      all = all.all;
       written = subst (λ (l : List ℕ). Appends old new (sweep_lines rules all.scripts ++ l)) total
           (Appends-trans old mid new (sweep_lines rules all.scripts) text all.written written);
       works = works;

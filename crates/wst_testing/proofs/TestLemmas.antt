@@ -1,7 +1,7 @@
 -- Tests and their lines, one after the other.
 use Rattle.std.proofs.Common.{◌≡◌, ◌∙◌, ◌+◌, ℕ, Bool, true, false, List, [], ◌∷◌, ◌++◌, Option}
-use Rattle.std.proofs.Common.{ap, arith, refl, sym, inl}
-use Rattle.std.proofs.Common.{inr, append-nil, append_assoc, filter, length, ◌||◌}
+use Rattle.std.proofs.Common.{ap, arith, refl, sym, inl, if◌then◌else◌}
+use Rattle.std.proofs.Common.{inr, append-nil, append_assoc, filter, length, map, ◌||◌}
 use Rattle.std.proofs.KnownBytes.{Appends-trans}
 use Rattle.std.proofs.lemmas.Grind.{flat_map-append}
 use Rattle.std.proofs.lemmas.List.{length-append, map-append}
@@ -10,7 +10,10 @@ use Rattle.std.proofs.lemmas.List.Folds.{list_any-append}
 use Rattle.std.specs.List.{list_any}
 use Rattle.std.specs.Io.KnownBytes.{Appends}
 use Rattle.ws_frame.specs.Watching.{AppendsFront}
+use Rattle.ws_reports.specs.Kept.{kept_of}
+use Rattle.ws_reports.specs.KnownCounts.{known_counts}
 use Rattle.ws_reports.specs.Reports.{ReportValue}
+use Rattle.ws_reports.proofs.CountLemmas.{counts_more, kept_more}
 use Rattle.ws_scripts.specs.declared.script.Case.{Case}
 use Rattle.std.specs.declared.alloc.Global.{Global}
 use Rattle.std.specs.declared.string.String.{String}
@@ -19,7 +22,8 @@ use Rattle.ws_suite.specs.declared.verdict.Verdict.TheVariants as verdict
 use Rattle.wst_commands.specs.Devices.{Delivers}
 use Rattle.wst_testing.specs.Outcomes.{is_fail, is_loose, is_pass}
 use Rattle.wst_testing.specs.Outcomes.{tally_of, tally_with, tally_with_verdict}
-use Rattle.wst_testing.specs.Reporting.{fails_in, report_text, report_texts, score_of, score_with}
+use Rattle.wst_testing.specs.Reporting.{change_in, fails_in, is_failure, report_text, report_texts, score_of, score_with}
+use Rattle.wst_testing.specs.Reporting.{verdict_in}
 use Rattle.wst_testing.specs.Testing.{outcomes_in}
 use Rattle.wst_commands.specs.declared.exit.Exit.{Exit}
 use Rattle.wst_testing.specs.declared.outcome.Outcome.{Outcome}
@@ -86,6 +90,57 @@ pub or_none : (b : Bool) → (b || false) ≡ b
 or_none true = refl
 or_none false = refl
 
+-- each outcome is of one kind
+one_judged : (told : Verdict) (below : String Global)
+    → length (filter is_pass (Judged (record { verdict = told; below = below }) ∷ []))
+    + length (filter is_loose (Judged (record { verdict = told; below = below }) ∷ []))
+    + length (filter is_fail (Judged (record { verdict = told; below = below }) ∷ [])) ≡ 1
+one_judged verdict.Pass below = refl
+one_judged (verdict.Loose why) below = refl
+one_judged (verdict.Fail why) below = refl
+
+one_kind : (outcome : Outcome)
+    → length (filter is_pass (outcome ∷ [])) + length (filter is_loose (outcome ∷ []))
+    + length (filter is_fail (outcome ∷ [])) ≡ 1
+one_kind (Judged told) = one_judged told.verdict told.below
+one_kind (HeadRefused refusal) = refl
+one_kind (NoConnection why) = refl
+one_kind NotRun = refl
+
+count_first : {X : Type 0} (p : X → Bool) (x : X) (xs : List X)
+    → length (filter p (x ∷ xs)) ≡ length (filter p (x ∷ [])) + length (filter p xs)
+count_first p x xs = ap (λ l. length l) (filter-append p (x ∷ []) xs) ∙ length-append (filter p (x ∷ [])) (filter p xs)
+
+-- the kinds are all there are
+pub kinds_are_all : (outcomes : List Outcome)
+    → length (filter is_pass outcomes) + length (filter is_loose outcomes) + length (filter is_fail outcomes)
+    ≡ length outcomes
+kinds_are_all [] = refl
+kinds_are_all (outcome ∷ outcomes) = omega (
+  arith,
+  one_kind outcome,
+  count_first is_pass outcome outcomes,
+  count_first is_loose outcome outcomes,
+  count_first is_fail outcome outcomes,
+  kinds_are_all outcomes,
+)
+
+-- one item passes or not
+one_passes : {X : Type 0} (b : Bool) (x : X) → length (if b then x ∷ [] else []) ≡ (if b then 1 else 0)
+one_passes true x = refl
+one_passes false x = refl
+
+one_counts : (b : Bool) (n : ℕ) → (if b then n + 1 else n) ≡ n + (if b then 1 else 0)
+one_counts true n = refl
+one_counts false n = omega arith
+
+-- how many pass with the next one
+pub count_then : {X : Type 0} (p : X → Bool) (xs : List X) (x : X)
+    → (if p x then length (filter p xs) + 1 else length (filter p xs)) ≡ length (filter p (xs ++ x ∷ []))
+count_then p xs x = one_counts (p x) (length (filter p xs))
+    ∙ ap (λ (n : ℕ). length (filter p xs) + n) (sym (one_passes (p x) x))
+    ∙ sym (count_more p xs x)
+
 -- and what the run comes to
 pub score_more : (report : ReportValue) (tests : List (Case × Outcome)) (case : Case) (outcome : Outcome)
     → score_with report (score_of report tests) (case, outcome) ≡ score_of report (tests ++ (case, outcome) ∷ [])
@@ -95,7 +150,13 @@ score_more report tests case outcome =
     or_none (fails_in report (case, outcome)) in
     let fails = sym (list_any-append (fails_in report) tests ((case, outcome) ∷ [])
     ∙ ap (λ (b : Bool). list_any (fails_in report) tests || b) one) in
-    λ i. record { tally = tally i; is_failed = fails i }
+    let failures = count_then (is_failure report) tests (case, outcome) in
+    let next = (case, outcome) ∷ [] in
+    let known = counts_more (map (change_in report) tests) (change_in report (case, outcome))
+    ∙ ap known_counts (sym (map-append (change_in report) tests next)) in
+    let kept = kept_more (map (verdict_in report) tests) (verdict_in report (case, outcome))
+    ∙ ap kept_of (sym (map-append (verdict_in report) tests next)) in
+    λ i. record { tally = tally i; is_failed = fails i; failures = failures i; known = known i; kept = kept i }
 
 -- a beginning of some bytes, written after others, is a beginning of both
 pub then_begun : (a b c : Option (List ℕ)) (first second : List ℕ) → Appends a b first → AppendsFront b c second → AppendsFront a c (first ++ second)

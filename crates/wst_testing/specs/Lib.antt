@@ -4,7 +4,9 @@ pub mod Ends
 pub mod Outcomes
 pub mod Hints
 pub mod Notes
+pub mod Summaries
 pub mod Reporting
+pub mod Failures
 pub mod Testing
 pub mod Runner
 pub mod Reporter

@@ -108,6 +108,10 @@ tally_of outcomes = record {
   fail = length (filter is_fail outcomes);
 }
 
+-- how many there are of all kinds
+abbrev pub count_in : Tally → ℕ
+count_in tally = tally.pass + tally.loose + tally.fail
+
 -- the line of the total
 abbrev pub total_line : Tally → List ℕ
 total_line tally = concat (decimal tally.pass ∷ codes " pass, " ∷ decimal tally.loose ∷ codes " loose, "

@@ -10,11 +10,12 @@ use Rattle.wst_commands.specs.declared.fault.Fault.{Fault}
 use Rattle.wst_commands.specs.declared.fault.Fault.TheVariants.{NoMemory}
 use Rattle.wst_sockets.specs.declared.meeting.ConnectFault.{ConnectFault}
 use Rattle.wst_sockets.specs.declared.meeting.Meeting.{Meeting}
+use Rattle.wst_testing.specs.Failures.{GoesOnBehind, IsEnoughBehind, WentOn}
 use Rattle.wst_testing.specs.Hints.{IsHintState}
 use Rattle.wst_testing.specs.declared.hinting.HintState.{HintState}
 use Rattle.wst_testing.specs.Notes.{TellsEach, notes_of, progress_notes}
 use Rattle.wst_testing.specs.Outcomes.{MayRunEach, max_missed, missed_at_end}
-use Rattle.wst_testing.specs.Reporting.{report_texts, score_of}
+use Rattle.wst_testing.specs.Reporting.{EndsReporting, report_texts, score_of}
 use Rattle.wst_testing.specs.Testing.{IsOutcomeOf, outcomes_in}
 use Rattle.wst_testing.specs.declared.outcome.Outcome.{Outcome}
 use Rattle.wst_testing.specs.declared.outcome.Outcome.TheVariants.{NoConnection}
@@ -37,13 +38,15 @@ notes_so_far progress place tests (Some case) = notes_of progress place tests ++
 
 -- This came of the cases: what the report has of them was written, and what there is to tell beside it was told, at
 -- this place what the first ones have in common. They come to this, and so many at their end are without a connection,
--- fewer than end a run.
+-- fewer than end a run; nor were there ever enough failures.
 pub record HasReported (rules : RunRules) (report : ReportValue) (place : ℕ) (came : List (Case × Meeting))
     (next : Option Case) (score : Score) (missed : ℕ) (hint : HintState) (output faults : Device) : Type 0 where
   pub tests : List (Case × Outcome)
   pub judged : AreJudged rules came tests
   pub may_run : MayRunEach (max_missed rules.is_limited) (outcomes_in tests)
   pub few : missed < max_missed rules.is_limited
+  pub went_on : WentOn rules.max_fail report tests
+  pub goes_on : GoesOnBehind rules.max_fail report tests
   pub counted : missed ≡ missed_at_end (outcomes_in tests)
   pub scored : score ≡ score_of report tests
   pub written : HasWritten (report_texts report tests) output
@@ -57,28 +60,43 @@ EndsMissed why tests =
     (before : List (Case × Outcome)) × (case : Case) × (tests ≡ before ++ (case, NoConnection why) ∷ [])
 
 -- what the report has of the last case could not be written whole; or with it as many in a row are without a connection
--- as end a run
-abbrev pub EndsReport : RunRules → ReportValue → List (Case × Outcome) → RunStop → Device → Type 0
-EndsReport rules report tests stop.Output output =
+-- as end a run; or, where they aren't, with it there are enough failures, and all come to this
+abbrev pub EndsReport : RunRules → ReportValue → List (Case × Outcome) → Score → RunStop → Device → Type 0
+EndsReport rules report tests score stop.Output output =
     (output.failed ≡ true) × HasBegun (report_texts report tests) output
-EndsReport rules report tests (stop.NoConnection why) output =
+EndsReport rules report tests score (stop.NoConnection why) output =
     (output.failed ≡ false) × HasWritten (report_texts report tests) output
     × (missed_at_end (outcomes_in tests) ≡ max_missed rules.is_limited) × EndsMissed why tests
-EndsReport rules report tests stop.Enough output = ⊥
-EndsReport rules report tests stop.NoMemory output = ⊥
+EndsReport rules report tests score stop.Enough output =
+    (output.failed ≡ false) × HasWritten (report_texts report tests) output
+    × (missed_at_end (outcomes_in tests) < max_missed rules.is_limited) × IsEnoughBehind rules.max_fail report tests
+    × (score ≡ score_of report tests)
+EndsReport rules report tests score stop.NoMemory output = ⊥
 
--- the run was ended behind these, for this reason
+-- the run was ended behind these, for this reason, and not by failures before
 pub record StopsReport (rules : RunRules) (report : ReportValue) (place : ℕ) (came : List (Case × Meeting))
-    (why : RunStop) (output faults : Device) : Type 0 where
+    (score : Score) (why : RunStop) (output faults : Device) : Type 0 where
   pub tests : List (Case × Outcome)
   pub judged : AreJudged rules came tests
   pub may_run : MayRunEach (max_missed rules.is_limited) (outcomes_in tests)
+  pub went_on : WentOn rules.max_fail report tests
   pub noted : TellsEach (notes_of rules.progress place tests) faults
-  pub ends : EndsReport rules report tests why output
+  pub ends : EndsReport rules report tests score why output
 
--- how a run ends that was stopped for this reason: what stopped it was told, but for want of memory
-abbrev pub IsEndOfStop : RunStop → Result Exit Fault → Type 0
-IsEndOfStop stop.Enough ended = ended ≡ Ok Failed
-IsEndOfStop stop.Output ended = ended ≡ Ok Failed
-IsEndOfStop (stop.NoConnection why) ended = ended ≡ Ok Failed
-IsEndOfStop stop.NoMemory ended = ended ≡ Err NoMemory
+-- the output can take a total, where one is to be written behind a run that was stopped for this reason
+abbrev pub WorksFor : RunStop → Bool → Type 0
+WorksFor stop.Enough failed = failed ≡ false
+WorksFor stop.Output failed = ⊤
+WorksFor (stop.NoConnection why) failed = ⊤
+WorksFor stop.NoMemory failed = ⊤
+
+-- How a run ends that was stopped for this reason: what stopped it was told, but for want of memory, and nothing more
+-- is written or told; but where enough was run, what the report has behind these cases.
+abbrev pub IsEndOfStop : ReportValue → Score → RunStop → Result Exit Fault → Type 0 → Type 0 → Device → Device → Type 0
+IsEndOfStop report score stop.Enough ended Unwritten Untold output faults =
+    EndsReporting report score ended Unwritten Untold output faults
+IsEndOfStop report score stop.Output ended Unwritten Untold output faults = (ended ≡ Ok Failed) × Unwritten × Untold
+IsEndOfStop report score (stop.NoConnection why) ended Unwritten Untold output faults =
+    (ended ≡ Ok Failed) × Unwritten × Untold
+IsEndOfStop report score stop.NoMemory ended Unwritten Untold output faults =
+    (ended ≡ Err NoMemory) × Unwritten × Untold

@@ -20,7 +20,7 @@ use Rattle.wst_words.specs.declared.run_options.RunOptions.{RunOptions}
 use Rattle.wst_commands.specs.Devices.{Tells}
 use Rattle.wst_commands.specs.GivenCases.{TellsNoCases}
 use Rattle.wst_commands.specs.TimeLimits.{GivesDeadline, GivesRunTimeout, GivesWait, HasDeadline, HasRunTimeout}
-use Rattle.wst_commands.specs.TimeLimits.{HasUnit, HasWait, is_limited, ten_times}
+use Rattle.wst_commands.specs.TimeLimits.{HasUnit, HasWait, IsCountWord, is_limited, ten_times}
 use Rattle.wst_commands.specs.declared.time_limit.TimeLimit.{TimeLimit}
 use Rattle.wst_commands.specs.declared.time_limit.TimeLimit.TheVariants.{Seconds, Unlimited}
 use Rattle.wst_commands.specs.declared.exit.Exit.{Exit}
@@ -142,6 +142,16 @@ pub record IsRunPlan (usual : UsualTimes) (options : RunOptions) (plan : RunPlan
   pub expected : plan.expected ≡ options.expect
   pub budget : plan.budget ≡ options.budget
 
+-- the option gives that so many failures end a run, 1 to 1000, and none do where it is left out
+abbrev pub GivesMaxFail : Option (Bor (List ℕ)) → Option ℕ → Type 0
+GivesMaxFail None most = most ≡ None
+GivesMaxFail (Some word) None = ⊥
+GivesMaxFail (Some word) (Some count) = IsCountWord 1000 count word.now
+
+-- it gives such a number, or is left out
+abbrev pub HasMaxFail : Option (Bor (List ℕ)) → Type 0
+HasMaxFail word = (most : Option ℕ) × GivesMaxFail word most
+
 -- it is told that a run of a plan waits for its end: a server that is met over a network, without a limit of time
 abbrev pub tells_waits_for : TestedEnd → TimeLimit → Bool
 tells_waits_for (Server target) limit = not (is_limited limit)
@@ -228,6 +238,7 @@ CanNotRun options (refusal.BadAddress given) = HasAllButEnd options
     ⊎ (NamesEnd options.role options.target.now × ¬ (CanConnect options.connect) × (given ≡ advice.Nothing)))
 CanNotRun options refusal.CaptureInReport = ⊥
 CanNotRun options refusal.NotOneCase = ⊥
+CanNotRun options refusal.BadMaxFail = ⊥
 CanNotRun options (refusal.NoCases (NoSuchCase id)) = ⊥
 CanNotRun options (refusal.NoCases NoMemory) = ⊤
 
@@ -251,7 +262,7 @@ TellsRefusal refusal.WaitForServer exit faults =
 TellsRefusal refusal.BadProtocols exit faults = (exit ≡ WrongWords)
     × Tells (codes "bad protocol list\n  up to 16 different names, joined by commas: --protocols chat,echo\n") faults
 TellsRefusal refusal.BadHeader exit faults = (exit ≡ WrongWords)
-    × Tells (codes "bad header\n  none that the request has itself, up to 32: --header 'Origin: http://localhost'\n")
+    × Tells (codes "bad header\n  NAME: VALUE, up to 32, none wst sends itself: --header 'Origin: http://localhost'\n")
     faults
 TellsRefusal refusal.BadTimeout exit faults = (exit ≡ WrongWords)
     × Tells (codes "bad timeout\n  a whole number of seconds, 1 to 3600: --timeout 5\n") faults
@@ -271,4 +282,6 @@ TellsRefusal (refusal.BadAddress given) exit faults = (exit ≡ WrongWords) × T
 TellsRefusal refusal.CaptureInReport exit faults =
     (exit ≡ WrongWords) × Tells (codes "--capture does not go with --known or --junit\n") faults
 TellsRefusal refusal.NotOneCase exit faults = (exit ≡ WrongWords) × Tells (codes "--capture takes one case\n") faults
+TellsRefusal refusal.BadMaxFail exit faults =
+    (exit ≡ WrongWords) × Tells (codes "bad max-fail\n  a whole number, 1 to 1000: --max-fail 10\n") faults
 TellsRefusal (refusal.NoCases why) exit faults = TellsNoCases why exit faults

@@ -17,6 +17,7 @@ use Rattle.wst_commands.specs.Faults.{LacksMemory}
 use Rattle.wst_commands.specs.declared.exit.Exit.{Exit}
 use Rattle.wst_commands.specs.declared.exit.Exit.TheVariants.{Failed}
 use Rattle.wst_sockets.specs.Meetings.{miss_line}
+use Rattle.wst_testing.specs.Failures.{is_enough}
 use Rattle.wst_testing.specs.Outcomes.{exit_of_tests, outcome_words, tally_of, total_line}
 use Rattle.wst_testing.specs.Testing.{IsOutcomeOf, IsTested}
 use Rattle.wst_sockets.specs.declared.meeting.ConnectFault.{ConnectFault}
@@ -83,6 +84,7 @@ case_rules rules =
       explains = None;
       progress = false;
       is_limited = false;
+      max_fail = None;
     }
 
 -- this is told of one of the ends that meet cases so, in the script's case
@@ -116,27 +118,40 @@ total_of_scripts scripts = sweep_total (length scripts) (tally_of (outcomes_of s
 
 -- ---- a run
 
--- All scripts of at most so many steps were run; their lines and the total were written, and the exit tells whether one
--- is a Fail.
+-- there are enough Fails among these to end the run
+abbrev pub is_enough_in : SweepRules → List SweptScript → Bool
+is_enough_in rules scripts = is_enough rules.max_fail (tally_of (outcomes_of scripts)).fail
+
+-- all scripts of at most so many steps, never with enough Fails; or with the last of these, and not before, there are
+-- enough
+abbrev pub EndsSweep : SweepRules → List SweptScript → Type 0
+EndsSweep rules scripts =
+    ((length scripts ≡ count_of_scripts rules.steps) × (is_enough_in rules scripts ≡ false))
+    ⊎ ((before : List SweptScript) × (last : SweptScript) × (scripts ≡ before ++ last ∷ [])
+    × (is_enough_in rules before ≡ false) × (is_enough_in rules scripts ≡ true))
+
+-- All scripts of at most so many steps were run, or those up to enough Fails; their lines and the total were written,
+-- and the exit tells whether one is a Fail.
 pub record SweepsAll (Meets : Case → Meeting → Type 0) (rules : SweepRules) (exit : Exit) (output : Device)
     : Type 0 where
   pub scripts : List SweptScript
   pub in_order : AreSwept Meets rules 0 scripts
-  pub all : length scripts ≡ count_of_scripts rules.steps
+  pub all : EndsSweep rules scripts
   pub written : HasWritten (sweep_lines rules scripts ++ total_of_scripts scripts) output
   pub works : output.failed ≡ false
   pub is_exit : exit ≡ exit_of_tests (tally_of (outcomes_of scripts))
 
--- the next script could be this one, and this is told of an end in it
+-- the next script could be this one, and this is told of an end in it; and there aren't enough Fails before it
 abbrev pub IsNextSwept : (Case → Meeting → Type 0) → SweepRules → List SweptScript → SweptScript → Type 0
 IsNextSwept Meets rules scripts next =
     ArePlaces next.places × (script_number next.places ≡ length scripts) × IsSwept Meets rules next
+    × (is_enough_in rules scripts ≡ false)
 
--- this is to be written next: the line of the next script, or the total where all were run
+-- this is to be written next: the line of the next script, or the total where all were run, or enough
 abbrev pub IsNextText : (Case → Meeting → Type 0) → SweepRules → List SweptScript → List ℕ → Type 0
 IsNextText Meets rules scripts text =
     ((next : SweptScript) × IsNextSwept Meets rules scripts next × (text ≡ script_line rules next))
-    ⊎ ((length scripts ≡ count_of_scripts rules.steps) × (text ≡ total_of_scripts scripts))
+    ⊎ (EndsSweep rules scripts × (text ≡ total_of_scripts scripts))
 
 -- why a run stopped behind these scripts
 abbrev pub StopsBehind : (Case → Meeting → Type 0) → SweepRules → List SweptScript → RunStop → Device → Type 0
@@ -235,52 +250,67 @@ AreJudgedScripts rules (run ∷ came) (script ∷ scripts) = ((outcome : Outcome
     × (missed_by outcome ≡ None)) × AreJudgedScripts rules came scripts
 AreJudgedScripts rules _ _ = ⊥
 
--- this came of the scripts: they were counted, and their lines written
-pub record HasToldScripts (rules : SweepRules) (came : List (ShortRunValue × Meeting)) (tally : Tally)
+-- this came of the scripts: they were counted, and their lines written, and there aren't enough Fails
+pub record HasToldScripts (rules : SweepRules) (came : List (ShortRunValue × Meeting)) (count : ℕ) (tally : Tally)
     (output : Device) : Type 0 where
   pub scripts : List SweptScript
   pub judged : AreJudgedScripts rules came scripts
+  pub many : count ≡ length scripts
+  pub goes_on : is_enough_in rules scripts ≡ false
   pub counted : tally ≡ tally_of (outcomes_of scripts)
   pub written : HasWritten (sweep_lines rules scripts) output
   pub works : output.failed ≡ false
 
--- behind these scripts, the line of this one could not be written whole, or there is no connection
-abbrev pub EndsScripts : SweepRules → List SweptScript → SweptScript → RunStop → Device → Type 0
-EndsScripts rules scripts next stop.Enough output = ⊥
-EndsScripts rules scripts next stop.Output output =
-    (output.failed ≡ true) × HasBegun (sweep_lines rules scripts ++ script_line rules next) output
-EndsScripts rules scripts next (stop.NoConnection why) output =
-    (next.outcome ≡ NoConnection why) × HasWritten (sweep_lines rules scripts) output
-EndsScripts rules scripts next stop.NoMemory output = ⊥
+-- with this one there are enough Fails, and all of them were counted so, and their lines written
+abbrev pub EndsByFails : SweepRules → List SweptScript → SweptScript → ℕ → Tally → Device → Type 0
+EndsByFails rules scripts next count tally output = (missed_by next.outcome ≡ None)
+    × (count ≡ length (scripts ++ next ∷ [])) × (tally ≡ tally_of (outcomes_of (scripts ++ next ∷ [])))
+    × (is_enough_in rules (scripts ++ next ∷ []) ≡ true)
+    × HasWritten (sweep_lines rules (scripts ++ next ∷ [])) output × (output.failed ≡ false)
 
--- the run was ended with the last of these, for this reason
-pub record StopsAtScript (rules : SweepRules) (came : List (ShortRunValue × Meeting)) (why : RunStop) (output : Device)
-    : Type 0 where
+-- behind these scripts, the line of this one could not be written whole, or there is no connection, or there are enough
+-- Fails with it
+abbrev pub EndsScripts : SweepRules → List SweptScript → SweptScript → ℕ → Tally → RunStop → Device → Type 0
+EndsScripts rules scripts next count tally stop.Enough output = EndsByFails rules scripts next count tally output
+EndsScripts rules scripts next count tally stop.Output output =
+    (output.failed ≡ true) × HasBegun (sweep_lines rules scripts ++ script_line rules next) output
+EndsScripts rules scripts next count tally (stop.NoConnection why) output =
+    (next.outcome ≡ NoConnection why) × HasWritten (sweep_lines rules scripts) output
+EndsScripts rules scripts next count tally stop.NoMemory output = ⊥
+
+-- the run was ended with the last of these, for this reason, and not by Fails before
+pub record StopsAtScript (rules : SweepRules) (came : List (ShortRunValue × Meeting)) (count : ℕ) (tally : Tally)
+    (why : RunStop) (output : Device) : Type 0 where
   pub before : List (ShortRunValue × Meeting)
   pub run : ShortRunValue
   pub meeting : Meeting
   pub last : came ≡ before ++ (run, meeting) ∷ []
   pub scripts : List SweptScript
   pub judged : AreJudgedScripts rules before scripts
+  pub goes_on : is_enough_in rules scripts ≡ false
   pub outcome : Outcome
   pub is : IsOutcomeOf (case_rules rules) meeting outcome
-  pub ends : EndsScripts rules scripts (swept run.places run.case outcome) why output
+  pub ends : EndsScripts rules scripts (swept run.places run.case outcome) count tally why output
 
--- what was counted, where a run came to its end; else why not
-abbrev pub IsCounted : Result (Unit {0}) RunStop → Tally → Result Tally RunStop → Type 0
-IsCounted (Ok _) tally ended = ended ≡ Ok tally
-IsCounted (Err why) tally ended = ended ≡ Err why
+-- what was counted, where a run came to its end, or enough was run; else why not
+abbrev pub IsCounted : Result (Unit {0}) RunStop → ℕ → Tally → Result (ℕ × Tally) RunStop → Type 0
+IsCounted (Ok _) count tally ended = ended ≡ Ok (count, tally)
+IsCounted (Err stop.Enough) count tally ended = ended ≡ Ok (count, tally)
+IsCounted (Err stop.Output) count tally ended = ended ≡ Err stop.Output
+IsCounted (Err (stop.NoConnection why)) count tally ended = ended ≡ Err (stop.NoConnection why)
+IsCounted (Err stop.NoMemory) count tally ended = ended ≡ Err stop.NoMemory
 
--- the first so many scripts were run and counted, and their lines written
+-- so many scripts were run and counted, all or enough, and their lines written
 pub record HasSwept (Meets : Case → Meeting → Type 0) (rules : SweepRules) (count : ℕ) (tally : Tally)
     (output : Device) : Type 0 where
   pub scripts : List SweptScript
   pub in_order : AreSwept Meets rules 0 scripts
   pub many : length scripts ≡ count
+  pub all : EndsSweep rules scripts
   pub counted : tally ≡ tally_of (outcomes_of scripts)
   pub written : HasWritten (sweep_lines rules scripts) output
 
-abbrev pub CountsScripts : (Case → Meeting → Type 0) → SweepRules → Result Tally RunStop → Device → Type 0
+abbrev pub CountsScripts : (Case → Meeting → Type 0) → SweepRules → Result (ℕ × Tally) RunStop → Device → Type 0
 CountsScripts Meets rules ended output = MatchResult ended
-    (λ tally. HasSwept Meets rules (count_of_scripts rules.steps) tally output × (output.failed ≡ false))
+    (λ counted. HasSwept Meets rules counted.0 counted.1 output × (output.failed ≡ false))
     (λ why. StopsSweep Meets rules why output)

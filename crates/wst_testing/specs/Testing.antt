@@ -18,11 +18,12 @@ use Rattle.ws_suite.specs.declared.verdict.Verdict.{Verdict}
 use Rattle.wst_commands.specs.Devices.{Delivers}
 use Rattle.wst_commands.specs.Explaining.{IsJudgementOf}
 use Rattle.wst_commands.specs.Judge.{exit_of}
+use Rattle.wst_testing.specs.Failures.{GoesOnBehind, IsEnoughBehind, WentOn}
 use Rattle.wst_testing.specs.Hints.{hint_place}
 use Rattle.wst_testing.specs.Notes.{TellsEach, miss_notes, notes_of, progress_notes}
 use Rattle.wst_testing.specs.Outcomes.{MayRunEach, below_line, max_missed, missed_at_end}
-use Rattle.wst_testing.specs.Outcomes.{outcome_words, told_refusal, total_line}
-use Rattle.wst_testing.specs.Reporting.{exit_of_report, report_texts, score_of}
+use Rattle.wst_testing.specs.Outcomes.{outcome_words, told_refusal}
+use Rattle.wst_testing.specs.Reporting.{behind_text, beside_notes, exit_of_report, report_texts, score_of}
 use Rattle.wst_commands.specs.declared.exit.Exit.{Exit}
 use Rattle.wst_commands.specs.declared.exit.Exit.TheVariants.{Damaged, Failed}
 use Rattle.wst_commands.specs.declared.fault.Fault.{Fault}
@@ -70,8 +71,9 @@ test_line test =
 
 -- ---- a run
 
--- All cases were tested, each behind fewer in a row without a connection than end a run, and what the report has of
--- them and of the total was written; or a write failed at last.
+-- All cases were tested, each behind fewer in a row without a connection than end a run, and never with enough failures
+-- to end it; and what the report has of them and behind them was written; or a write failed at last. What is behind the
+-- cases of a document was told last.
 pub record TellsAll (Meets : Case → Meeting → Type 0) (rules : RunRules) (report : ReportValue) (cases : List Case)
     (notes : List (List ℕ))
     (exit : Exit) (output : Device) : Type 0 where
@@ -79,9 +81,11 @@ pub record TellsAll (Meets : Case → Meeting → Type 0) (rules : RunRules) (re
   pub are_tested : AreTested Meets rules cases tests
   pub may_run : MayRunEach (max_missed rules.is_limited) (outcomes_in tests)
   pub few : missed_at_end (outcomes_in tests) < max_missed rules.is_limited
+  pub goes_on : GoesOnBehind rules.max_fail report tests
   pub noted : notes ≡ notes_of rules.progress (hint_place (length cases)) tests
+      ++ beside_notes report (behind_text report (score_of report tests))
   pub told : Delivers (exit_of_report (score_of report tests).is_failed)
-      (report_texts report tests ++ end_text report (total_line (score_of report tests).tally)) exit output
+      (report_texts report tests ++ end_text report (behind_text report (score_of report tests))) exit output
 
 -- the first n cases were tested so, and a line of theirs could not be written: a beginning of their lines was
 pub record StopsAtLine (Meets : Case → Meeting → Type 0) (rules : RunRules) (report : ReportValue)
@@ -91,6 +95,7 @@ pub record StopsAtLine (Meets : Case → Meeting → Type 0) (rules : RunRules) 
   pub tests : List (Case × Outcome)
   pub are_tested : AreTested Meets rules (take n cases) tests
   pub may_run : MayRunEach (max_missed rules.is_limited) (outcomes_in tests)
+  pub went_on : WentOn rules.max_fail report tests
   pub noted : notes ≡ notes_of rules.progress (hint_place (length cases)) tests
   pub failed : (exit ≡ Failed) × (output.failed ≡ true)
   pub begun : HasBegun (report_texts report tests) output
@@ -104,10 +109,28 @@ pub record StopsAtConnection (Meets : Case → Meeting → Type 0) (rules : RunR
   pub tests : List (Case × Outcome)
   pub are_tested : AreTested Meets rules (take n cases) tests
   pub may_run : MayRunEach (max_missed rules.is_limited) (outcomes_in tests)
+  pub went_on : WentOn rules.max_fail report tests
   pub missed : missed_at_end (outcomes_in tests) ≡ max_missed rules.is_limited
   pub noted : notes ≡ notes_of rules.progress (hint_place (length cases)) tests
   pub ended : (exit ≡ Failed) × (output.failed ≡ false)
   pub written : HasWritten (report_texts report tests) output
+
+-- The first n cases were tested so, and with the last of them, and not before, there are enough failures to end the
+-- run: their lines were written, and what is behind them; or a write failed at last. What is behind the cases of a
+-- document was told last.
+pub record StopsAtFailures (Meets : Case → Meeting → Type 0) (rules : RunRules) (report : ReportValue)
+    (cases : List Case) (notes : List (List ℕ)) (exit : Exit) (output : Device) : Type 0 where
+  pub n : ℕ
+  pub tests : List (Case × Outcome)
+  pub are_tested : AreTested Meets rules (take n cases) tests
+  pub may_run : MayRunEach (max_missed rules.is_limited) (outcomes_in tests)
+  pub few : missed_at_end (outcomes_in tests) < max_missed rules.is_limited
+  pub went_on : WentOn rules.max_fail report tests
+  pub enough : IsEnoughBehind rules.max_fail report tests
+  pub noted : notes ≡ notes_of rules.progress (hint_place (length cases)) tests
+      ++ beside_notes report (behind_text report (score_of report tests))
+  pub told : Delivers (exit_of_report (score_of report tests).is_failed)
+      (report_texts report tests ++ end_text report (behind_text report (score_of report tests))) exit output
 
 -- the name of the case behind the first n was told, or not yet
 abbrev pub IsNextNote : RunRules → List Case → ℕ → List (List ℕ) → Type 0
@@ -123,6 +146,7 @@ pub record LacksMemoryAfter (Meets : Case → Meeting → Type 0) (rules : RunRu
   pub are_tested : AreTested Meets rules (take n cases) tests
   pub may_run : MayRunEach (max_missed rules.is_limited) (outcomes_in tests)
   pub few : missed_at_end (outcomes_in tests) < max_missed rules.is_limited
+  pub went_on : WentOn rules.max_fail report tests
   pub next : List (List ℕ)
   pub is_next : IsNextNote rules cases n next
   pub noted : notes ≡ notes_of rules.progress (hint_place (length cases)) tests ++ next
@@ -135,7 +159,8 @@ abbrev pub TestsCases : (Case → Meeting → Type 0) → RunRules → ReportVal
 TestsCases Meets rules report cases notes ended output = MatchResult ended
     (λ exit. TellsAll Meets rules report cases notes exit output
     ⊎ StopsAtLine Meets rules report cases notes exit output
-    ⊎ StopsAtConnection Meets rules report cases notes exit output)
+    ⊎ StopsAtConnection Meets rules report cases notes exit output
+    ⊎ StopsAtFailures Meets rules report cases notes exit output)
     (λ fault. (fault ≡ NoMemory) × LacksMemoryAfter Meets rules report cases notes output)
 
 -- it was told

@@ -1,10 +1,12 @@
 //! Laws over the definitions, each the contract of a function that does nothing.
 
-ghost use Rattle.std.specs.Prelude.{◌≡◌, Bool, None, true};
+ghost use Rattle.std.specs.Prelude.{◌≡◌, ℕ, Bool, List, None, Option, true};
+ghost use Rattle.ws_reports.specs.Reports.{ReportValue};
 ghost use Rattle.ws_scripts.specs.declared.expectation.Expectation.TheVariants.{Echo};
 ghost use Rattle.ws_scripts.specs.declared.script.Case.{Case};
 ghost use Rattle.wst_testing.specs.Outcomes.{is_fail, is_pass};
-ghost use Rattle.wst_testing.specs.Reporting.{fails_in};
+ghost use Rattle.wst_testing.specs.Failures.{IsEnoughBehind};
+ghost use Rattle.wst_testing.specs.Reporting.{fails_in, score_of};
 ghost use Rattle.wst_testing.specs.Servers.{MeetsInMemory};
 ghost use Rattle.wst_testing.specs.Sweeps.{IsSwept, SweptScript};
 ghost use Rattle.wst_testing.specs.declared.case_server.MemoryPeer.TheVariants.{Own};
@@ -27,6 +29,12 @@ pub fn our_echo_passes_every_script()
 /// Where no earlier run is known, a run is said to have failed by the cases that are a Fail, of which no connection is
 /// one.
 pub fn a_run_fails_by_its_fails()
-    ensures { (is_junit : Bool) (test : Case × Outcome) →
-        fails_in (record { is_junit = is_junit; known = None }) test ≡ is_fail test.1 }
+    ensures { (is_junit has_summary : Bool) (test : Case × Outcome) →
+        fails_in (record { is_junit = is_junit; has_summary = has_summary; known = None }) test ≡ is_fail test.1 }
+{}
+
+/// Where there are enough failures to end a run, it is said to have failed.
+pub fn enough_failures_make_a_run_fail()
+    ensures { (most : Option ℕ) (report : ReportValue) (tests : List (Case × Outcome)) →
+        IsEnoughBehind most report tests → (score_of report tests).is_failed ≡ true }
 {}

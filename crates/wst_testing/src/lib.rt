@@ -20,6 +20,7 @@ mod outcome;
 mod run_plans;
 mod runner;
 mod short_runs;
+mod summary;
 mod sweeping;
 mod testing;
 
@@ -28,8 +29,13 @@ pub use capturing::{capture_case, capture_text, tell_capture};
 pub use case_server::{CaseServer, MemoryEnd, MemoryPeer};
 pub use known_input::{KnownStop, known_given, tell_known_stop};
 pub use line_writer::{LineStop, LineWriter};
-pub use outcome::{Outcome, Reported, Score, Tally, close_report, report_case, total_line};
-pub use run_plans::{Refusal, RunPlan, TestedEnd, UsualTimes, is_url, plan_run, tell_refusal};
+pub use outcome::{
+    Outcome, Reported, Score, Tally, behind_text, close_report, is_fail, report_case, tell_beside,
+    total_line,
+};
+pub use run_plans::{
+    Refusal, RunPlan, TestedEnd, UsualTimes, is_url, max_fail_given, plan_run, tell_refusal,
+};
 pub use runner::{CaseSource, End, HasCase, ListedCases, RunStop, Sink, run_cases};
 pub use sweeping::{SweepRules, is_told, sweep_scripts, tell_sweep_end, total_of};
 pub use testing::{RunRules, tell_case, tell_progress, test_cases};

@@ -1,23 +1,26 @@
 //! What is told of a tested end in a case, what a report writes of it, and what a run of cases has come to.
 
-ghost use Rattle.std.specs.Prelude.{◌≡◌, ◌+◌, ◌<◌, ◌^◌, IfOk, string_bytes, MatchResult, false};
-ghost use Rattle.wst_testing.specs.Outcomes.{below_line, exit_of_tests, no_tally, outcome_words, tally_with};
-ghost use Rattle.wst_testing.specs.Outcomes.{tally_with_verdict, total_line};
-ghost use Rattle.wst_testing.specs.Reporting.{ClosesReport, exit_of_report, fails_in, no_score, report_text};
-ghost use Rattle.wst_testing.specs.Reporting.{score_by};
+ghost use Rattle.std.specs.Prelude.{◌≡◌, ◌+◌, ◌<◌, ◌^◌, ◌&&◌, IfOk, IfSome, OnErr, OnOk, string_bytes, false};
+ghost use Rattle.std.specs.Prelude.{if◌then◌else◌};
+ghost use Rattle.wst_testing.specs.Failures.{is_enough};
+ghost use Rattle.wst_testing.specs.Outcomes.{below_line, count_in, exit_of_tests, is_fail, no_tally, outcome_words};
+ghost use Rattle.wst_testing.specs.Outcomes.{tally_with, tally_with_verdict, total_line};
+ghost use Rattle.wst_testing.specs.Notes.{TellsEach};
+ghost use Rattle.wst_testing.specs.Reporting.{ClosesReport, EndsReporting, behind_text, beside_notes, case_score};
+ghost use Rattle.wst_testing.specs.Reporting.{exit_of_report, no_score, report_text, score_by};
 ghost use Rattle.ws_frame.specs.Devices.{watched};
 ghost use Rattle.ws_frame.specs.Watching.{has_failed};
-ghost use Rattle.ws_reports.specs.Reports.{end_text};
-ghost use Rattle.wst_commands.specs.Devices.{Delivers};
-ghost use Rattle.wst_commands.specs.declared.fault.Fault.TheVariants as variant;
+ghost use Rattle.ws_reports.specs.KnownCounts.{counts_if};
+ghost use Rattle.wst_commands.specs.Devices.{StaysFailed};
 
+use crate::summary::summary_lines;
 use std::alloc::Global;
 use std::fmt;
 use std::io::Write;
 use ws_base::NoMemory;
 use ws_connection::HeadRefusal;
 use ws_frame::Watched;
-use ws_reports::{Report, Told};
+use ws_reports::{CaseScore, Change, KeptVerdicts, KnownCounts, Report, Told};
 use ws_suite::{Case, Verdict};
 use ws_titles::title_of;
 use wst_commands::{Exit, Fault, Judgement, deliver, tell};
@@ -100,6 +103,14 @@ impl Tally {
         }
     }
 
+    /// How many there are of all kinds.
+    pub fn count(self) -> usize
+        requires { count_in self < 2 ^ 64 }
+        ensures { result ≡ count_in self }
+    {
+        self.pass + self.loose + self.fail
+    }
+
     /// With one outcome more.
     pub fn with(self, outcome: &Outcome) -> Tally
         requires pass { self.pass + 1 < 2 ^ 64 }
@@ -162,40 +173,71 @@ pub fn total_line(alloc: Global, tally: Tally) -> Result<String, NoMemory>
     Ok(line)
 }
 
-/// How many cases had each kind of outcome, and whether one is such that the run is said to have failed.
-#[derive(Clone, Copy)]
+/// What a run of cases has come to.
+#[derive(Drop)]
 pub struct Score {
+    /// How many cases had each kind of outcome.
     pub tally: Tally,
+    /// One is such that the run is said to have failed.
     pub is_failed: bool,
+    /// How many are a FAIL or without a connection, and such cases.
+    pub failures: usize,
+    /// How many stand how beside an earlier run, where one is known.
+    pub known: KnownCounts,
+    /// The verdicts that its summary tells, where one is asked for.
+    pub kept: KeptVerdicts,
 }
 
 impl Score {
     /// Of no case.
-    pub fn new() -> Score
+    pub fn new(alloc: Global) -> Score
         ensures { result ≡ no_score }
     {
         Score {
             tally: Tally::new(),
             is_failed: false,
+            failures: 0,
+            known: KnownCounts::none(),
+            kept: KeptVerdicts::new(alloc),
         }
     }
 
-    /// With one outcome more, which is such a one or not.
-    pub fn with(self, outcome: &Outcome, is_failed: bool) -> Score
-        requires pass { self.tally.pass + 1 < 2 ^ 64 }
-        requires loose { self.tally.loose + 1 < 2 ^ 64 }
-        requires fail { self.tally.fail + 1 < 2 ^ 64 }
-        ensures { result ≡ score_by self outcome.now is_failed }
+    /// With one case more, which had this outcome and adds this. Where memory runs out, or 64 bits can't count it, it
+    /// is as before.
+    pub fn count(&mut self, outcome: &Outcome, case: CaseScore) -> Result<(), NoMemory>
+        requires pass { self.old.tally.pass + 1 < 2 ^ 64 }
+        requires loose { self.old.tally.loose + 1 < 2 ^ 64 }
+        requires fail { self.old.tally.fail + 1 < 2 ^ 64 }
+        requires failures { self.old.failures + 1 < 2 ^ 64 }
+        ensures counted { OnOk result (self.new ≡ score_by self.old outcome.now case) }
+        ensures kept { OnErr result (self.new ≡ self.old) }
     {
-        Score {
-            tally: self.tally.with(outcome),
-            is_failed: self.is_failed || is_failed,
-        }
+        let CaseScore {
+            is_failed,
+            change,
+            verdict,
+        } = case;
+        let Some(known) = counted_with(self.known, change) else {
+            return Err(NoMemory);
+        };
+        self.kept.keep_any(verdict)?;
+        self.known = known;
+        self.tally = self.tally.with(outcome);
+        self.is_failed = self.is_failed || is_failed;
+        self.failures = failures_with(self.failures, outcome, is_failed);
+        Ok(())
+    }
+
+    /// Whether a run ends behind so many failures. Where 0 is given, one is enough.
+    pub fn is_enough(&self, most: Option<u32>) -> bool
+        ensures { result ≡ is_enough most self.now.failures }
+    {
+        is_enough(most, self.failures)
     }
 
     /// How a run ends that came to this.
-    pub fn exit(self) -> Exit
-        ensures { result ≡ exit_of_report self.is_failed }
+    pub fn exit(&self) -> Exit
+        ensures { result ≡ exit_of_report self.now.is_failed }
     {
         if self.is_failed {
             Exit::Damaged
@@ -205,14 +247,59 @@ impl Score {
     }
 }
 
-/// What a report writes of a case, and whether a run of it alone would be said to have failed.
+/// The counts with a case more that stands so, where an earlier run is known. `None` where 64 bits can't count it.
+fn counted_with(counts: KnownCounts, change: Option<Change>) -> Option<KnownCounts>
+    ensures { IfSome result (λ counted. counted ≡ counts_if counts change) }
+{
+    match change {
+        Some(change) => counts.with(change),
+        None => Some(counts),
+    }
+}
+
+/// How many failures there are with one outcome more, by which a run fails or not.
+fn failures_with(failures: usize, outcome: &Outcome, is_failed: bool) -> usize
+    requires { failures + 1 < 2 ^ 64 }
+    ensures { result ≡ (if is_fail outcome.now && is_failed then failures + 1 else failures) }
+{
+    if is_fail(outcome) && is_failed {
+        failures + 1
+    } else {
+        failures
+    }
+}
+
+/// Whether an outcome is a FAIL, or without a connection.
+pub fn is_fail(outcome: &Outcome) -> bool
+    ensures { result ≡ is_fail outcome.now }
+{
+    match outcome {
+        Outcome::Judged(told) => match told.verdict {
+            Verdict::Pass | Verdict::Loose(_) => false,
+            Verdict::Fail(_) => true,
+        },
+        Outcome::HeadRefused(_) | Outcome::NoConnection(_) | Outcome::NotRun => true,
+    }
+}
+
+/// Whether so many failures end a run, where a number of them is given. Where 0 is given, one is enough.
+pub fn is_enough(most: Option<u32>, failures: usize) -> bool
+    ensures { result ≡ is_enough most failures }
+{
+    match most {
+        Some(most) => failures > 0 && !(failures < most as usize),
+        None => false,
+    }
+}
+
+/// What a report writes of a case, and what that adds to what a run comes to.
 #[derive(Drop)]
 pub struct Reported {
     pub text: String,
-    pub is_failed: bool,
+    pub score: CaseScore,
 }
 
-/// What a report writes of a case, and whether a run of it alone would be said to have failed.
+/// What a report writes of a case, and what that adds to what a run comes to.
 pub fn report_case(
     alloc: Global,
     report: &Report,
@@ -220,7 +307,7 @@ pub fn report_case(
     outcome: &Outcome,
 ) -> Result<Reported, NoMemory>
     ensures text { IfOk result (λ told. string_bytes told.text ≡ report_text report.now (case.now, outcome.now)) }
-    ensures failed { IfOk result (λ told. told.is_failed ≡ fails_in report.now (case.now, outcome.now)) }
+    ensures score { IfOk result (λ told. told.score ≡ case_score report.now (case.now, outcome.now)) }
 {
     let verdict = format!(in alloc; "{outcome}")?;
     let below = format!(in alloc; "{}", Below(outcome))?;
@@ -231,28 +318,52 @@ pub fn report_case(
         below: below.as_str(),
     };
     let text = report.case_text(alloc, told)?;
-    Ok(Reported {
-        text,
-        is_failed: report.is_failed(told),
-    })
+    let score = report.case_score(alloc, told)?;
+    Ok(Reported { text, score })
 }
 
-/// Writes what a report has last, behind a run that came to this.
-pub(crate) fn tell_end<W: Write>(
+/// What stands behind the cases of a run that came to this: its total, its summary, and how the cases stand beside the
+/// earlier run.
+pub fn behind_text(alloc: Global, report: &Report, score: &Score) -> Result<String, NoMemory>
+    ensures { IfOk result (λ text. string_bytes text ≡ behind_text report.now score.now) }
+{
+    let mut text = total_line(alloc, score.tally)?;
+    let summary = summary_lines(alloc, score.kept.as_slice())?;
+    text.push_str(summary.as_str())?;
+    let known = report.known_line(alloc, score.known)?;
+    text.push_str(known.as_str())?;
+    Ok(text)
+}
+
+/// Tells on the fault output what stands behind the cases of a document.
+pub fn tell_beside<F: Write>(report: &Report, behind: &str, faults: &mut Watched<F>)
+    ensures told { TellsEach (beside_notes report.now behind.now) (watched F.contents faults.old faults.new) }
+    ensures still { StaysFailed faults.old faults.new }
+{
+    if report.is_junit() {
+        tell(behind.as_bytes(), faults);
+    }
+}
+
+/// Writes what a report has last, behind a run that came to this. What stands behind the cases of a document goes to
+/// `faults`.
+pub(crate) fn tell_end<W: Write, F: Write>(
     alloc: Global,
     report: &Report,
-    score: Score,
+    score: &Score,
     writer: &mut Watched<W>,
+    faults: &mut Watched<F>,
 ) -> Result<Exit, Fault>
     requires { has_failed writer.old ≡ false }
-    ensures { MatchResult result
-        (λ exit. Delivers (exit_of_report score.is_failed) (end_text report.now (total_line score.tally)) exit
-        (watched W.contents writer.old writer.new))
-        (λ fault. (fault ≡ variant.NoMemory) × (writer.new ≡ writer.old)) }
+    ensures is { EndsReporting report.now score.now result (writer.new ≡ writer.old) (faults.new ≡ faults.old)
+        (watched W.contents writer.old writer.new) (watched F.contents faults.old faults.new) }
+    ensures still { StaysFailed faults.old faults.new }
 {
-    let total = total_line(alloc, score.tally)?;
-    let text = report.end_text(total.as_str());
-    Ok(deliver(score.exit(), text.as_bytes(), writer))
+    let behind = behind_text(alloc, report, score)?;
+    let text = report.end_text(behind.as_str());
+    let exit = deliver(score.exit(), text.as_bytes(), writer);
+    tell_beside(report, behind.as_str(), faults);
+    Ok(exit)
 }
 
 /// Writes what a report has behind all cases, where a run ended before it was written and the output works.

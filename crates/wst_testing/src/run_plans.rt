@@ -4,7 +4,7 @@ ghost use Rattle.std.specs.Prelude.{◌≡◌, ◌≢◌, ◌↔◌, IfOk, IsTru
 ghost use Rattle.ws_frame.specs.Devices.{watched};
 ghost use Rattle.wst_commands.specs.Devices.{Tells};
 ghost use Rattle.ws_connection.specs.RequestHeaders.{headers_in};
-ghost use Rattle.wst_testing.specs.RunPlans.{HasHeaders, header_words};
+ghost use Rattle.wst_testing.specs.RunPlans.{GivesMaxFail, HasHeaders, HasMaxFail, header_words};
 ghost use Rattle.wst_testing.specs.RunPlans.{CanConnect, IsClientsAddress, IsEndOf, IsRunPlan, IsUrl, CanNotRun};
 ghost use Rattle.wst_testing.specs.RunPlans.{AdvisesClients, RefusesTarget, TellsRefusal, address_text, tested_role};
 ghost use Rattle.wst_testing.specs.RunPlans.{IsDeadlineRefusal, IsTimeoutRefusal, IsWaitRefusal, WaitsForServer};
@@ -28,10 +28,13 @@ use ws_targets::{
 use ws_upgrade::is_host;
 use ws_wire::Role;
 use wst_commands::{
-    Exit, NoCases, TimeLimit, deadline_given, has_unit, run_timeout_given, tell, tell_no_cases,
-    wait_given,
+    Exit, NoCases, TimeLimit, count_given, deadline_given, has_unit, run_timeout_given, tell,
+    tell_no_cases, wait_given,
 };
 use wst_words::RunOptions;
+
+/// At most so many failures end a run.
+const MOST_FAILURES: u32 = 1000;
 
 /// The end that scripts are run over.
 #[derive(Drop)]
@@ -154,6 +157,8 @@ pub enum Refusal<'a> {
     CaptureInReport,
     /// A capture is asked for, and not exactly one case is given.
     NotOneCase,
+    /// The number of failures that are to end a run is none of 1 to 1000.
+    BadMaxFail,
     /// A word stands for no case, or memory ran out.
     NoCases(NoCases<'a>),
 }
@@ -235,6 +240,20 @@ fn gives_limit(word: Option<&str>, timeout: TimeLimit) -> bool
     match word {
         Some(_) => timeout.is_limited(),
         None => false,
+    }
+}
+
+/// How many failures end a run, by the word of an option: a number of 1 to 1000, and none where it is left out. `None`
+/// where the word is no such number.
+pub fn max_fail_given(word: Option<&str>) -> Option<Option<u32>>
+    ensures { MatchOption result (¬ (HasMaxFail word.entry)) (GivesMaxFail word.entry) }
+{
+    let Some(word) = word else {
+        return Some(None);
+    };
+    match count_given(word, MOST_FAILURES) {
+        Some(count) => Some(Some(count)),
+        None => None,
     }
 }
 
@@ -415,7 +434,7 @@ pub fn tell_refusal<F: Write>(alloc: Global, refusal: Refusal<'_>, faults: &mut 
             faults,
         ),
         Refusal::BadHeader => tell_wrong(
-            b"bad header\n  none that the request has itself, up to 32: --header 'Origin: http://localhost'\n",
+            b"bad header\n  NAME: VALUE, up to 32, none wst sends itself: --header 'Origin: http://localhost'\n",
             faults,
         ),
         Refusal::BadTimeout => tell_wrong(
@@ -451,6 +470,10 @@ pub fn tell_refusal<F: Write>(alloc: Global, refusal: Refusal<'_>, faults: &mut 
             tell_wrong(b"--capture does not go with --known or --junit\n", faults)
         }
         Refusal::NotOneCase => tell_wrong(b"--capture takes one case\n", faults),
+        Refusal::BadMaxFail => tell_wrong(
+            b"bad max-fail\n  a whole number, 1 to 1000: --max-fail 10\n",
+            faults,
+        ),
         Refusal::NoCases(why) => tell_no_cases(alloc, why, faults),
     }
 }

@@ -1,7 +1,7 @@
 //! Every short script run over new ends: each is judged, and its line is written where there is one to tell, before
 //! the next one runs.
 
-ghost use Rattle.std.specs.Prelude.{◌≡◌, ◌≤◌, IfOk, OnErr, OnOk, false, string_bytes};
+ghost use Rattle.std.specs.Prelude.{◌≡◌, ◌+◌, ◌<◌, ◌^◌, ◌≤◌, IfOk, OnErr, OnOk, false, string_bytes};
 ghost use Rattle.ws_frame.specs.Devices.{watched};
 ghost use Rattle.ws_frame.specs.Watching.{has_failed};
 ghost use Rattle.ws_sweep.specs.Order.{max_steps};
@@ -10,7 +10,7 @@ ghost use Rattle.wst_testing.specs.Sweeps.{CountsScripts, IsCounted, SweepsScrip
 ghost use Rattle.wst_testing.specs.Sweeps.{missed_by, script_line, script_notes, sweep_total, swept, whole_text};
 
 use crate::case_server::CaseServer;
-use crate::outcome::{Outcome, Tally};
+use crate::outcome::{Outcome, Tally, is_enough};
 use crate::runner::{RunStop, Sink, run_cases};
 use crate::short_runs::{ShortRun, ShortRuns};
 use crate::testing::{RunRules, judged};
@@ -19,7 +19,6 @@ use std::io::Write;
 use ws_base::NoMemory;
 use ws_frame::{Watched, write_whole};
 use ws_suite::{Expectation, Verdict};
-use ws_sweep::script_count;
 use ws_wire::Role;
 use wst_commands::{Exit, Fault, tell, tell_fault};
 use wst_sockets::{ConnectFault, Meeting};
@@ -41,10 +40,13 @@ pub struct SweepRules {
     pub key: [u8; 4],
     /// Each case is named by its steps, so that a wait of it can be told.
     pub names: bool,
+    /// So many Fails end the run, where a number of them is given.
+    pub max_fail: Option<u32>,
 }
 
 /// Every script of at most so many steps is run in their order, each over a new end, and its line is written, where
-/// there is one to tell, as soon as it is judged, and the total last.
+/// there is one to tell, as soon as it is judged, and the total last. Enough Fails end the run, and the total of what
+/// was run stands behind them.
 pub fn sweep_scripts<S: CaseServer, W: Write, F: Write>(
     alloc: Global,
     server: &S,
@@ -56,20 +58,20 @@ pub fn sweep_scripts<S: CaseServer, W: Write, F: Write>(
     requires steps { rules.steps ≤ max_steps }
     ensures { SweepsScripts (S.meets server.now rules.key) rules result (watched W.contents writer.old writer.new) }
 {
-    let tally = run_scripts(alloc, server, rules, writer, faults)?;
-    let total = total_of(alloc, script_count(rules.steps), tally)?;
+    let (count, tally) = run_scripts(alloc, server, rules, writer, faults)?;
+    let total = total_of(alloc, count, tally)?;
     write_whole(writer, total.as_bytes())?;
     Ok(tally.exit())
 }
 
-/// Runs the scripts, and counts what was told of the tested end in them.
+/// Runs the scripts, and counts them, and what was told of the tested end in them.
 fn run_scripts<S: CaseServer, W: Write, F: Write>(
     alloc: Global,
     server: &S,
     rules: SweepRules,
     writer: &mut Watched<W>,
     faults: &mut Watched<F>,
-) -> Result<Tally, RunStop>
+) -> Result<(usize, Tally), RunStop>
     requires works { has_failed writer.old ≡ false }
     requires steps { rules.steps ≤ max_steps }
     ensures { CountsScripts (S.meets server.now rules.key) rules result (watched W.contents writer.old writer.new) }
@@ -77,20 +79,26 @@ fn run_scripts<S: CaseServer, W: Write, F: Write>(
     let mut runs = ShortRuns::of(rules);
     let mut sweeper = Sweeper {
         rules,
+        count: 0,
         tally: Tally::new(),
         writer,
         faults,
     };
     let ended = run_cases(alloc, server, rules.key, &mut runs, &mut sweeper);
-    counted(ended, sweeper.tally)
+    counted(ended, sweeper.count, sweeper.tally)
 }
 
-/// What was counted, where a run came to its end.
-fn counted(ended: Result<(), RunStop>, tally: Tally) -> Result<Tally, RunStop>
-    ensures { IsCounted ended tally result }
+/// What was counted, where a run came to its end, or enough was run.
+fn counted(
+    ended: Result<(), RunStop>,
+    count: usize,
+    tally: Tally,
+) -> Result<(usize, Tally), RunStop>
+    ensures { IsCounted ended count tally result }
 {
     match ended {
-        Ok(()) => Ok(tally),
+        Ok(()) => Ok((count, tally)),
+        Err(RunStop::Enough) => Ok((count, tally)),
         Err(why) => Err(why),
     }
 }
@@ -100,6 +108,8 @@ fn counted(ended: Result<(), RunStop>, tally: Tally) -> Result<Tally, RunStop>
 #[derive(Drop)]
 struct Sweeper<'w, 'f, W, F> {
     rules: SweepRules,
+    /// So many scripts were run.
+    count: usize,
     tally: Tally,
     writer: &'w mut Watched<W>,
     faults: &'f mut Watched<F>,
@@ -113,10 +123,12 @@ impl<W: Write, F: Write> Sink for Sweeper<'_, '_, W, F> {
     type Item = ShortRun;
 
     ghost heard = { λ start now came next. (now.rules ≡ start.rules)
-        × HasToldScripts start.rules came now.tally (watched W.contents start.writer.now now.writer.now) };
+        × HasToldScripts start.rules came now.count now.tally
+        (watched W.contents start.writer.now now.writer.now) };
 
     ghost stopped = { λ start now came why.
-        StopsAtScript start.rules came why (watched W.contents start.writer.now now.writer.now) };
+        StopsAtScript start.rules came now.count now.tally why
+        (watched W.contents start.writer.now now.writer.now) };
 
     ghost borrows = { λ sweeper. sweeper.writer.ghost_name ∷ sweeper.faults.ghost_name ∷ [] };
 
@@ -137,8 +149,20 @@ impl<W: Write, F: Write> Sink for Sweeper<'_, '_, W, F> {
             Err(_) => return Err(RunStop::Output),
         }
         self.tally = self.tally.with(&outcome);
+        self.count = one_more(self.count);
+        if is_enough(self.rules.max_fail, self.tally.fail) {
+            return Err(RunStop::Enough);
+        }
         Ok(())
     }
+}
+
+/// One more than so many.
+fn one_more(count: usize) -> usize
+    requires { count + 1 < 2 ^ 64 }
+    ensures { result ≡ count + 1 }
+{
+    count + 1
 }
 
 /// How the case of a script is run.
@@ -153,6 +177,7 @@ fn case_rules(rules: SweepRules) -> RunRules
         explains: None,
         progress: false,
         is_limited: false,
+        max_fail: None,
     }
 }
 

@@ -10,14 +10,14 @@ ghost use Rattle.wst_commands.specs.Devices.{Delivers, StaysFailed};
 ghost use Rattle.wst_testing.specs.Hints.{notes_with};
 ghost use Rattle.wst_testing.specs.Notes.{TellsEach, miss_notes, progress_notes};
 ghost use Rattle.wst_testing.specs.Outcomes.{is_missed, max_missed, told_refusal};
-ghost use Rattle.wst_testing.specs.Reporter.{IsEndOfStop};
+ghost use Rattle.wst_testing.specs.Reporter.{IsEndOfStop, WorksFor};
 ghost use Rattle.wst_testing.specs.Testing.{IsOutcomeOf, IsTested, RunsCases, test_line};
 ghost use Rattle.wst_commands.specs.declared.fault.Fault.TheVariants as variant;
 ghost use Rattle.wst_testing.specs.declared.outcome.Outcome.TheVariants.{NoConnection};
 
 use crate::case_server::CaseServer;
 use crate::hinting::{HintState, tell_hint};
-use crate::outcome::{Below, Outcome, Score, report_case, tell_end};
+use crate::outcome::{Below, Outcome, Reported, Score, report_case, tell_end};
 use crate::runner::{ListedCases, RunStop, Sink, run_cases};
 use std::alloc::Global;
 use std::io::Write;
@@ -47,11 +47,16 @@ pub struct RunRules {
     /// Tested ends are waited for in time: a case without a connection doesn't end the run then, but the third in a
     /// row.
     pub is_limited: bool,
+    /// So many failures end the run, where a number of them is given: FAILs and missing connections, beside an earlier
+    /// run of those by which a run fails.
+    pub max_fail: Option<u32>,
 }
 
 /// Runs the cases in their order, each over a new end, and writes what the report has of each as soon as it is judged,
-/// and of the total last. What can't be written ends the run, and so does, after it is told, an end to which there is
-/// no connection, or the third in a row. Why there is none is told to `faults`, the name of a case where that is asked
+/// and the total last, with a summary and counts beside an earlier run where these are asked for (behind a document all
+/// of them go to `faults`). What can't be written ends the run, and so does, after it is told, an end to which there is
+/// no connection, or the third in a row. Behind enough failures it ends too, and the total is that of what was run. Why
+/// there is no connection is told to `faults`, the name of a case where that is asked
 /// for, and what the first ten cases have in common, where that says what to type.
 pub fn test_cases<S: CaseServer, W: Write, F: Write>(
     alloc: Global,
@@ -68,10 +73,11 @@ pub fn test_cases<S: CaseServer, W: Write, F: Write>(
         (watched W.contents writer.old writer.new) (watched F.contents faults.old faults.new) }
     ensures still { StaysFailed faults.old faults.new }
 {
+    let mut score = Score::new(alloc);
     let mut reporter = Reporter {
         rules,
         report,
-        score: Score::new(),
+        score: &mut score,
         missed: 0,
         hint: HintState::of(cases.len()),
         writer,
@@ -79,19 +85,29 @@ pub fn test_cases<S: CaseServer, W: Write, F: Write>(
     };
     let mut listed = ListedCases::of(cases);
     let ended = run_cases(alloc, server, rules.key, &mut listed, &mut reporter);
-    let score = reporter.score;
     match ended {
-        Ok(()) => tell_end(alloc, report, score, writer),
-        Err(why) => stopped_by(why),
+        Ok(()) => tell_end(alloc, report, &score, writer, faults),
+        Err(why) => stopped_by(alloc, why, report, &score, writer, faults),
     }
 }
 
-/// How a run ends that was stopped for this reason.
-fn stopped_by(why: RunStop) -> Result<Exit, Fault>
-    ensures { IsEndOfStop why result }
+/// How a run ends that was stopped for this reason: where enough was run, with the total of that.
+fn stopped_by<W: Write, F: Write>(
+    alloc: Global,
+    why: RunStop,
+    report: &Report,
+    score: &Score,
+    writer: &mut Watched<W>,
+    faults: &mut Watched<F>,
+) -> Result<Exit, Fault>
+    requires { WorksFor why (has_failed writer.old) }
+    ensures is { IsEndOfStop report.now score.now why result (writer.new ≡ writer.old) (faults.new ≡ faults.old)
+        (watched W.contents writer.old writer.new) (watched F.contents faults.old faults.new) }
+    ensures still { StaysFailed faults.old faults.new }
 {
     match why {
-        RunStop::Enough | RunStop::Output | RunStop::NoConnection(_) => Ok(Exit::Failed),
+        RunStop::Enough => tell_end(alloc, report, score, writer, faults),
+        RunStop::Output | RunStop::NoConnection(_) => Ok(Exit::Failed),
         RunStop::NoMemory => Err(Fault::NoMemory),
     }
 }
@@ -99,10 +115,11 @@ fn stopped_by(why: RunStop) -> Result<Exit, Fault>
 /// Writes what a report has of each case as soon as it is judged. Why there is no connection is told to `faults`, and
 /// the name of a case before it runs, where that is asked for.
 #[derive(Drop)]
-struct Reporter<'r, 'w, 'f, W, F> {
+struct Reporter<'r, 's, 'w, 'f, W, F> {
     rules: RunRules,
     report: &'r Report,
-    score: Score,
+    /// What the cases so far come to.
+    score: &'s mut Score,
     /// So many cases in a row are without a connection.
     missed: u32,
     /// What the cases have in common.
@@ -111,7 +128,7 @@ struct Reporter<'r, 'w, 'f, W, F> {
     faults: &'f mut Watched<F>,
 }
 
-impl<W: Write, F: Write> Sink for Reporter<'_, '_, '_, W, F> {
+impl<W: Write, F: Write> Sink for Reporter<'_, '_, '_, '_, W, F> {
     ghost use Rattle.std.specs.Prelude.{◌≡◌, ◌∷◌, []};
     ghost use Rattle.ws_frame.specs.Devices.{watched};
     ghost use Rattle.wst_commands.specs.Devices.{StaysFailed};
@@ -120,15 +137,17 @@ impl<W: Write, F: Write> Sink for Reporter<'_, '_, '_, W, F> {
     type Item = Case;
 
     ghost heard = { λ start now came next. (now.rules ≡ start.rules) × (now.report.now ≡ start.report.now)
-        × HasReported start.rules start.report.now start.hint.left came next now.score now.missed now.hint
+        × HasReported start.rules start.report.now start.hint.left came next now.score.now now.missed now.hint
         (watched W.contents start.writer.now now.writer.now) (watched F.contents start.faults.now now.faults.now)
         × StaysFailed start.faults.now now.faults.now };
 
-    ghost stopped = { λ start now came why. StopsReport start.rules start.report.now start.hint.left came why
+    ghost stopped = { λ start now came why.
+        StopsReport start.rules start.report.now start.hint.left came now.score.now why
         (watched W.contents start.writer.now now.writer.now) (watched F.contents start.faults.now now.faults.now)
         × StaysFailed start.faults.now now.faults.now };
 
-    ghost borrows = { λ reporter. reporter.writer.ghost_name ∷ reporter.faults.ghost_name ∷ [] };
+    ghost borrows = { λ reporter.
+        reporter.score.ghost_name ∷ reporter.writer.ghost_name ∷ reporter.faults.ghost_name ∷ [] };
 
     fn begins(&mut self, alloc: Global, case: &Case) -> Result<(), NoMemory> {
         tell_progress(alloc, self.rules.progress, case, self.faults)?;
@@ -138,7 +157,9 @@ impl<W: Write, F: Write> Sink for Reporter<'_, '_, '_, W, F> {
     fn came(&mut self, alloc: Global, case: &Case, meeting: Meeting) -> Result<(), RunStop> {
         let outcome = judged(alloc, self.rules, meeting)?;
         let reported = report_case(alloc, self.report, case, &outcome)?;
-        let written = write_whole(self.writer, reported.text.as_bytes());
+        let Reported { text, score } = reported;
+        self.score.count(&outcome, score)?;
+        let written = write_whole(self.writer, text.as_bytes());
         tell_behind(self.hint, &outcome, self.faults);
         match written {
             Ok(()) => {}
@@ -148,8 +169,10 @@ impl<W: Write, F: Write> Sink for Reporter<'_, '_, '_, W, F> {
         if self.missed >= max_missed(self.rules.is_limited) {
             return Err(RunStop::NoConnection(miss_of(&outcome)));
         }
-        self.score = self.score.with(&outcome, reported.is_failed);
         self.hint = self.hint.with(&outcome);
+        if self.score.is_enough(self.rules.max_fail) {
+            return Err(RunStop::Enough);
+        }
         Ok(())
     }
 }

@@ -5,8 +5,9 @@ use Rattle.wst_clients.proofs.testing_clients.not_run_lines.Given as goal
 
 abbrev pub invariant-loop-place : goal.invariant-loop-place
 invariant-loop-place l = record {
-  added : AddsNotRun l.rules.telling (take l.place l.cases) (take l.place l.standing.behaviors) l.initial.counted (string_bytes l.lines) l.counted;
-  pass : l.counted.tally.pass ≡ l.initial.counted.tally.pass;
-  loose : l.counted.tally.loose ≡ l.initial.counted.tally.loose;
-  fail : l.counted.tally.fail ≤ l.initial.counted.tally.fail + l.place;
+  added : AddsNotRun l.rules.telling (take l.place l.cases) (take l.place l.standing.behaviors) l.initial.score (string_bytes l.lines) l.score;
+  pass : l.score.tally.pass ≡ l.initial.score.tally.pass;
+  loose : l.score.tally.loose ≡ l.initial.score.tally.loose;
+  fail : l.score.tally.fail ≤ l.initial.score.tally.fail + l.place;
+  failures : l.score.failures ≤ l.initial.score.failures + l.place;
 }

@@ -11,7 +11,8 @@ use Rattle.wst_testing.specs.Reporting.{no_score}
 use Rattle.ws_paths.specs.Standings.{StandingValue, none_run}
 use Rattle.wst_clients.specs.VisitOutcomes.{ComesTo, after_outcome, ends_with_outcome, outcome_notes, tests_in}
 use Rattle.wst_clients.specs.declared.visit_outcome.VisitOutcome.{VisitOutcome}
-use Rattle.wst_clients.proofs.ClientLemmas.{VisitsNext, after_keeps, late_fits, visited_bound, visited_more}
+use Rattle.wst_clients.proofs.ClientLemmas.{VisitsNext, after_keeps, enough_fits, late_fits, visited_bound}
+use Rattle.wst_clients.proofs.ClientLemmas.{visited_more, visits_enough}
 use Rattle.wst_clients.proofs.ClientLemmas.{visited_none, visits_end, visits_err, visits_fit, visits_late}
 use Rattle.wst_clients.proofs.ClientLemmas.{visits_no_more, visits_stop}
 use Rattle.wst_sockets.specs.Accepting.{IsWhy}
@@ -89,20 +90,20 @@ returns-in_err-outcome-clause-runs g c =
     (g.F.Write.contents (inner_of c.outcome_of_client.new.faults)) next c.from_residual-in_err-outcome.result
     at.invariant.run at.invariant.works c.in_err-outcome.ensures.still some told lacks
 
-pub returns-in_err-reported-clause-runs : goal.returns-in_err-reported-clause-runs
-returns-in_err-reported-clause-runs g c =
+pub returns-in_err-text-clause-runs : goal.returns-in_err-text-clause-runs
+returns-in_err-text-clause-runs g c =
     let given = c.args.rules.now in
     let at = c.loop-visited in
     let outcome = c.in_ok-outcome.outcome in
     let some = some_of_outcome (g.C.TestedClients.visits c.args.clients.now given) given at.standing outcome
     c.in_ok-outcome.ensures.comes in
-    let lacks : IsErrAnd c.from_residual-in_err-reported.result (λ fault. fault ≡ NoMemory) = search rules in
+    let lacks : IsErrAnd c.from_residual-in_err-text.result (λ fault. fault ≡ NoMemory) = search rules in
     visits_err (g.C.Clients.may_be_late c.args.clients.now) (ComesTo (g.C.TestedClients.visits c.args.clients.now given) given) given at.visited at.standing at.score
     (g.W.Write.contents (inner_of c.args.writer.now)) (g.W.Write.contents (inner_of at.writer)) (has_failed at.writer)
     (has_failed at.faults) (has_failed c.outcome_of_client.new.faults)
     (g.F.Write.contents (inner_of c.args.faults.now)) (g.F.Write.contents (inner_of at.faults))
     (g.F.Write.contents (inner_of c.outcome_of_client.new.faults)) (outcome_notes given outcome)
-    c.from_residual-in_err-reported.result at.invariant.run at.invariant.works c.in_ok-outcome.ensures.still some
+    c.from_residual-in_err-text.result at.invariant.run at.invariant.works c.in_ok-outcome.ensures.still some
     c.in_ok-outcome.ensures.told lacks
 
 pub returns-then-failed-clause-runs : goal.returns-then-failed-clause-runs
@@ -130,16 +131,16 @@ returns-then-failed-clause-runs g c =
     (g.F.Write.contents (inner_of c.args.faults.now)) (g.F.Write.contents (inner_of at.faults))
     (g.F.Write.contents (inner_of c.outcome_of_client.new.faults)) at.invariant.run next broken begun
 
-pub count_visit-score-requires-clause-room : goal.count_visit-score-requires-clause-room
-count_visit-score-requires-clause-room g c =
+pub report_outcome-requires-clause-room : goal.report_outcome-requires-clause-room
+report_outcome-requires-clause-room g c =
     let given = c.args.rules.now in
     let at = c.loop-visited in
-    let (pass, loose, fail) = visited_bound (ComesTo (g.C.TestedClients.visits c.args.clients.now given) given) given
+    let (pass, loose, fail, failures) = visited_bound (ComesTo (g.C.TestedClients.visits c.args.clients.now given) given) given
     at.visited at.standing at.score (g.W.Write.contents (inner_of c.args.writer.now))
     (g.W.Write.contents (inner_of at.writer)) (watched g.F.Write.contents c.args.faults.now at.faults)
     at.invariant.run in
     let bound = at.invariant.bound in
-    (omega (arith, pass, bound), omega (arith, loose, bound), omega (arith, fail, bound))
+    (omega (arith, pass, bound), omega (arith, loose, bound), omega (arith, fail, bound), omega (arith, failures, bound))
 
 ends_by : (goes : Bool) (count : ℕ) (standing after : StandingValue) (outcome : VisitOutcome) (b : Bool)
     → after ≡ after_outcome standing outcome → length standing.behaviors ≡ count
@@ -149,14 +150,49 @@ ends_by goes count standing after outcome b stands long is same =
     (sym (ap (λ (s : StandingValue). length s.behaviors) stands ∙ after_keeps standing outcome ∙ long))
     ∙ sym is ∙ same
 
+pub returns-then-is_enough-clause-fits : goal.returns-then-is_enough-clause-fits
+returns-then-is_enough-clause-fits g c =
+    let given = c.args.rules.now in
+    let at = c.loop-visited in
+    enough_fits (ComesTo (g.C.TestedClients.visits c.args.clients.now given) given) given at.visited at.standing
+    c.in_ok-outcome.outcome at.score c.report_outcome.new.score (g.W.Write.contents (inner_of c.args.writer.now))
+    (g.W.Write.contents (inner_of at.writer)) (watched g.F.Write.contents c.args.faults.now at.faults) at.invariant.run
+    c.in_ok-text.ensures.counted c.loop-visited-test.true
+
+pub returns-then-is_enough-clause-runs : goal.returns-then-is_enough-clause-runs
+returns-then-is_enough-clause-runs g c =
+    let given = c.args.rules.now in
+    let Comes = ComesTo (g.C.TestedClients.visits c.args.clients.now given) given in
+    let at = c.loop-visited in
+    let outcome = c.in_ok-outcome.outcome in
+    let line = lines_for given.telling (tests_in given outcome) in
+    let text : c.as_bytes.result.now ≡ line = search rules in
+    let works : has_failed c.deliver.new.writer ≡ false = sym c.failed.ensures ∙ c.if-failed.false in
+    let output = watched g.W.Write.contents at.writer c.deliver.new.writer in
+    let told = delivers_same Done Done c.as_bytes.result.now line c.deliver.result output refl text c.deliver.ensures in
+    let written = was_written Done c.deliver.result line output told works in
+    let next : VisitsNext Comes given at.standing outcome (has_failed at.faults)
+    (has_failed c.outcome_of_client.new.faults) (g.F.Write.contents (inner_of at.faults))
+    (g.F.Write.contents (inner_of c.outcome_of_client.new.faults)) = record {
+      comes = c.in_ok-outcome.ensures.comes;
+      noted = c.in_ok-outcome.ensures.told;
+      still = c.in_ok-outcome.ensures.still;
+    } in
+    visits_enough Comes given at.visited at.standing outcome at.score c.report_outcome.new.score
+    (g.W.Write.contents (inner_of c.args.writer.now)) (g.W.Write.contents (inner_of at.writer))
+    (g.W.Write.contents (inner_of c.deliver.new.writer)) (has_failed c.deliver.new.writer) (has_failed at.faults)
+    (has_failed c.outcome_of_client.new.faults) (g.F.Write.contents (inner_of c.args.faults.now))
+    (g.F.Write.contents (inner_of at.faults)) (g.F.Write.contents (inner_of c.outcome_of_client.new.faults))
+    at.invariant.run next (sym c.is_enough.ensures ∙ c.if-is_enough.true) c.in_ok-text.ensures.counted written works
+
 pub returns-then-ends_with-clause-fits : goal.returns-then-ends_with-clause-fits
 returns-then-ends_with-clause-fits g c =
     let given = c.args.rules.now in
     let at = c.loop-visited in
     visits_fit (ComesTo (g.C.TestedClients.visits c.args.clients.now given) given) given at.visited at.standing
-    c.keep_outcome.new.standing c.in_ok-outcome.outcome at.score c.count_visit-score.result
+    c.keep_outcome.new.standing c.in_ok-outcome.outcome at.score c.report_outcome.new.score
     (g.W.Write.contents (inner_of c.args.writer.now)) (g.W.Write.contents (inner_of at.writer))
-    (watched g.F.Write.contents c.args.faults.now at.faults) at.invariant.run c.count_visit-score.ensures
+    (watched g.F.Write.contents c.args.faults.now at.faults) at.invariant.run c.in_ok-text.ensures.counted
     c.keep_outcome.ensures c.loop-visited-test.true at.invariant.fits
 
 pub returns-then-ends_with-clause-runs : goal.returns-then-ends_with-clause-runs
@@ -179,14 +215,14 @@ returns-then-ends_with-clause-runs g c =
       still = c.in_ok-outcome.ensures.still;
     } in
     visits_end (g.C.Clients.may_be_late c.args.clients.now) Comes given at.visited at.standing c.keep_outcome.new.standing outcome at.score
-    c.count_visit-score.result (g.W.Write.contents (inner_of c.args.writer.now))
+    c.report_outcome.new.score (g.W.Write.contents (inner_of c.args.writer.now))
     (g.W.Write.contents (inner_of at.writer)) (g.W.Write.contents (inner_of c.deliver.new.writer))
     (has_failed c.deliver.new.writer) (has_failed at.faults) (has_failed c.outcome_of_client.new.faults)
     (g.F.Write.contents (inner_of c.args.faults.now)) (g.F.Write.contents (inner_of at.faults))
     (g.F.Write.contents (inner_of c.outcome_of_client.new.faults)) at.invariant.run next
     (ends_by true (length given.cases.now) at.standing c.keep_outcome.new.standing outcome c.ends_with.result
     c.keep_outcome.ensures at.invariant.run.kept c.ends_with.ensures c.if-ends_with.true)
-    c.count_visit-score.ensures written works c.keep_outcome.ensures
+    (sym c.is_enough.ensures ∙ c.if-is_enough.false) c.in_ok-text.ensures.counted written works c.keep_outcome.ensures
 
 pub loop-visited-preserved : goal.loop-visited-preserved
 loop-visited-preserved g c =
@@ -211,14 +247,14 @@ loop-visited-preserved g c =
       bound = omega (arith, c.loop-visited-test.true);
       fits = at.invariant.fits;
       run = visited_more Comes given at.visited at.standing c.keep_outcome.new.standing outcome at.score
-          c.count_visit-score.result (g.W.Write.contents (inner_of c.args.writer.now))
+          c.report_outcome.new.score (g.W.Write.contents (inner_of c.args.writer.now))
           (g.W.Write.contents (inner_of at.writer)) (g.W.Write.contents (inner_of c.deliver.new.writer))
           (has_failed at.faults) (has_failed c.outcome_of_client.new.faults)
           (g.F.Write.contents (inner_of c.args.faults.now)) (g.F.Write.contents (inner_of at.faults))
           (g.F.Write.contents (inner_of c.outcome_of_client.new.faults)) at.invariant.run next
           (ends_by false (length given.cases.now) at.standing c.keep_outcome.new.standing outcome c.ends_with.result
           c.keep_outcome.ensures at.invariant.run.kept c.ends_with.ensures c.if-ends_with.false)
-          c.count_visit-score.ensures written c.keep_outcome.ensures;
+          (sym c.is_enough.ensures ∙ c.if-is_enough.false) c.in_ok-text.ensures.counted written c.keep_outcome.ensures;
       still = λ failed. c.in_ok-outcome.ensures.still (at.invariant.still failed);
     }
 
@@ -245,14 +281,14 @@ loop-visited-preserved-else-ends_with g c =
       bound = omega (arith, c.loop-visited-test.true);
       fits = at.invariant.fits;
       run = visited_more Comes given at.visited at.standing c.keep_outcome.new.standing outcome at.score
-          c.count_visit-score.result (g.W.Write.contents (inner_of c.args.writer.now))
+          c.report_outcome.new.score (g.W.Write.contents (inner_of c.args.writer.now))
           (g.W.Write.contents (inner_of at.writer)) (g.W.Write.contents (inner_of c.deliver.new.writer))
           (has_failed at.faults) (has_failed c.outcome_of_client.new.faults)
           (g.F.Write.contents (inner_of c.args.faults.now)) (g.F.Write.contents (inner_of at.faults))
           (g.F.Write.contents (inner_of c.outcome_of_client.new.faults)) at.invariant.run next
           (ends_by false (length given.cases.now) at.standing c.keep_outcome.new.standing outcome c.ends_with.result
           c.keep_outcome.ensures at.invariant.run.kept c.ends_with.ensures c.if-ends_with.false)
-          c.count_visit-score.ensures written c.keep_outcome.ensures;
+          (sym c.is_enough.ensures ∙ c.if-is_enough.false) c.in_ok-text.ensures.counted written c.keep_outcome.ensures;
       still = λ failed. c.in_ok-outcome.ensures.still (at.invariant.still failed);
     }
 

@@ -10,4 +10,8 @@ returns-in-Ok g c =
     let input = watched g.R.Read.remaining c.args.reader.now c.known_given.new.reader in
     let known = subst (λ (k : Option (List KnownLine)). IsKnownBy c.args.options.now.known k input)
     (sym c.new-report.ensures.known) c.in-Ok.ensures in
-    inl (c.new-report.result, (c.new-report.ensures.junit, known), c.run_over_target.ensures)
+    inl (
+      c.new-report.result,
+      (c.new-report.ensures.junit, c.new-report.ensures.summary, known),
+      c.run_over_target.ensures,
+    )

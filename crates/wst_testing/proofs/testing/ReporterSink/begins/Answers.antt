@@ -15,7 +15,7 @@ returns-clause-heard g c = λ start came (rules, report, so, still).
     (watched g.F.Write.contents old.faults.now faults)) rules c.in_ok-tell_progress.ensures.told in (
       rules,
       report,
-      reported_begun start.rules start.report.now start.hint.left came c.args.case.now old.score old.missed old.hint
+      reported_begun start.rules start.report.now start.hint.left came c.args.case.now old.score.now old.missed old.hint
           (watched g.W.Write.contents start.writer.now old.writer.now) (has_failed old.faults.now) (has_failed faults)
           (g.F.Write.contents (inner_of start.faults.now)) (g.F.Write.contents (inner_of old.faults.now))
           (g.F.Write.contents (inner_of faults)) so c.in_ok-tell_progress.ensures.still told,
