@@ -23,6 +23,7 @@ MOST_OF = {  # times its bytes
     "convert": 2,
     "judge": 4,
     "pair": 2,
+    "report": 6,
     "send": 29,
     "session": 2,
     "show": 2,
@@ -216,6 +217,21 @@ RUNS = [
             },
         )
         for as_capture in ([], ["--capture"])
+    ),
+    *(
+        (
+            ["report", *kind],
+            ["2.1 PASS\n"],
+            {
+                "lines of one case": [Many("2.1 PASS\n")],
+                "lines of a blank": [Many(" \n"), "2.1 PASS\n"],
+                "lines below a case": ["2.1 FAIL Close\n", Many("  rule 5.5.1\n")],
+                "a name": ["# ", Many("a"), "\n2.1 PASS\n"],
+                "a name again and again": [Many("# a\n2.1 PASS\n")],
+                "totals": [Many("0 pass, 0 loose, 0 fail\n")],
+            },
+        )
+        for kind in ([], ["--json"], ["--summary"], ["--junit"])
     ),
     (["test", "--known", "own", "2.1"], [], {"lines of a blank": [Many(" \n")], "cases": [Many("2.1 PASS\n")]}),
 ]
