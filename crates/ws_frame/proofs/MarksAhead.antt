@@ -71,7 +71,7 @@ bad_length_stays source place taken lines bad unmarked ends a = record {
       (lines_stay source 0 place a.frames unmarked (omega (arith, ends a.frames a.rest a.split)));
 }
 
-certain_stay : (source : Source) (place : ℕ) (taken lines : List ℕ) → source.fault ≡ None → EndBy taken place
+pub certain_stay : (source : Source) (place : ℕ) (taken lines : List ℕ) → source.fault ≡ None → EndBy taken place
     → AreCertainLines source taken lines → AreCertainLines (marked_at source place) taken lines
 certain_stay source place taken lines unmarked ends (inl f) = inl (record {
   frames = f.frames;

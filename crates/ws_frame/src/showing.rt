@@ -142,8 +142,20 @@ impl Run {
         ensures begun { HasTold result [] [] }
         ensures empty { result.lines ≡ [] }
     {
+        // Taken apart before the room is made, so that nothing of it is read behind that.
+        let Source {
+            from,
+            mark,
+            style,
+            fault,
+        } = source;
         Run {
-            source,
+            source: Source {
+                from,
+                mark,
+                style,
+                fault,
+            },
             taken: 0,
             offset: 0,
             partial: Partial::new(),

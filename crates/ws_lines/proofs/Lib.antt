@@ -4,3 +4,4 @@ mod Texts
 mod Tellings
 mod Wholes
 mod Alone
+mod LineMarks

@@ -24,7 +24,7 @@ unfolding digits
 on_numbers = tt
 
 abbrev at_client : Showing
-at_client = record { tested = Client; style = Hex }
+at_client = record { tested = Client; style = Hex; sent_fault = None; got_fault = None }
 
 abbrev turn_of : List ℕ → List ℕ → Turn
 turn_of sent got = record { sent = sent; got = got }

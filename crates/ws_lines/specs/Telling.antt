@@ -1,11 +1,13 @@
 -- What the lines of a transcript are told by while it goes on, and what each call writes of them.
-use Rattle.std.specs.Prelude.{◌≡◌, ◌<◌, ◌+◌, ◌^◌, ℕ, Bool, false, List, [], ◌∷◌, ◌++◌, length, Result, Ok, Err}
+use Rattle.std.specs.Prelude.{◌≡◌, ◌<◌, ◌+◌, ◌^◌, ℕ, Bool, false, List, [], ◌∷◌, ◌++◌, length, None, Some, Result}
+use Rattle.std.specs.Prelude.{Ok, Err}
 use Rattle.std.specs.List.{AllByRecursion}
 use Rattle.ws_lines.specs.declared.transcript_lines.Showing.{Showing}
 use Rattle.ws_frame.specs.declared.show_fault.ShowFault.{ShowFault}
 use Rattle.ws_frame.specs.declared.writing_whole.WriteFault.{WriteFault}
 use Rattle.ws_frame.specs.Devices.{Device, HasWritten, HasBegun}
-use Rattle.ws_frame.specs.FrameStreaming.{HasTakenFrames, MayEndBy, frames_source, is_of_a_write, keeps_frames}
+use Rattle.ws_frame.specs.FrameStreaming.{EndBy, HasTakenFrames, MayEndBy, frames_source, is_of_a_write}
+use Rattle.ws_frame.specs.FrameStreaming.{keeps_frames}
 use Rattle.ws_frame.specs.Lines.{takes_memory}
 use Rattle.ws_frame.specs.Streaming.{WritesAll}
 use Rattle.ws_scripts.specs.declared.transcript.Turn.{Turn}
@@ -35,6 +37,25 @@ pub record HasToldTurns (showing : Showing) (told : TranscriptLines) (turns : Li
   pub count : told.turns ≡ length turns
   pub sent : IsToldIn (sent_by_tester showing) told.sent turns lines
   pub got : IsToldIn (got_by_tester showing) told.got turns lines
+
+-- shown so, but with the frame at this place marked, of those that the tester sent; or of those that it got
+abbrev pub with_sent_fault : Showing → ℕ → Showing
+with_sent_fault showing place = record showing { sent_fault = Some place }
+
+abbrev pub with_got_fault : Showing → ℕ → Showing
+with_got_fault showing place = record showing { got_fault = Some place }
+
+-- of a direction without a mark the frame at this place is marked: while its line isn't written, all that was told
+-- stays
+abbrev pub MarksSent : TranscriptLines → TranscriptLines → ℕ → Type 0
+MarksSent old new place = (showing : Showing) (turns : List Turn) (written : List ℕ) → showing.sent_fault ≡ None
+    → HasToldTurns showing old turns written → EndBy (bytes_in (sent_by_tester showing) turns) place
+    → HasToldTurns (with_sent_fault showing place) new turns written
+
+abbrev pub MarksGot : TranscriptLines → TranscriptLines → ℕ → Type 0
+MarksGot old new place = (showing : Showing) (turns : List Turn) (written : List ℕ) → showing.got_fault ≡ None
+    → HasToldTurns showing old turns written → EndBy (bytes_in (got_by_tester showing) turns) place
+    → HasToldTurns (with_got_fault showing place) new turns written
 
 -- a turn can begin in which so many bytes are sent: places and numbers of turns are told by 64 bits
 abbrev pub HasRoomForTurn : ℕ → TranscriptLines → Type 0

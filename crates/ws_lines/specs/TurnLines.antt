@@ -1,5 +1,5 @@
 -- The lines of a transcript (RFC 6455 section 5.2): the frames that each end sent, by turns, as `show` has them.
-use Rattle.std.specs.Prelude.{◌≡◌, ℕ, ◌+◌, ◌^◌, ◌<◌, ◌≤◌, List, [], ◌∷◌, ◌++◌, length, take, codes, None}
+use Rattle.std.specs.Prelude.{◌≡◌, ℕ, ◌+◌, ◌^◌, ◌<◌, ◌≤◌, List, [], ◌∷◌, ◌++◌, length, take, codes}
 use Rattle.std.specs.List.{flat_map}
 use Rattle.std.specs.Fmt.{decimal}
 use Rattle.ws_wire.specs.declared.role.Role.{Role}
@@ -57,14 +57,14 @@ tester_of Server = Client
 -- what the tester sent; and what it got, which the tested end sent
 abbrev pub sent_by_tester : Showing → Direction
 sent_by_tester showing = record {
-  source = record { from = tester_of showing.tested; mark = Sent; style = showing.style; fault = None };
+  source = record { from = tester_of showing.tested; mark = Sent; style = showing.style; fault = showing.sent_fault };
   bytes = λ turn. turn.sent;
   lines = λ lines. lines.sent;
 }
 
 abbrev pub got_by_tester : Showing → Direction
 got_by_tester showing = record {
-  source = record { from = showing.tested; mark = Got; style = showing.style; fault = None };
+  source = record { from = showing.tested; mark = Got; style = showing.style; fault = showing.got_fault };
   bytes = λ turn. turn.got;
   lines = λ lines. lines.got;
 }

@@ -6,7 +6,7 @@ ghost use Rattle.ws_frame.specs.Devices.{watched};
 ghost use Rattle.ws_lines.specs.declared.transcript_lines.Showing.{Showing};
 ghost use Rattle.ws_lines.specs.TurnLines.{end_line, tester_of};
 ghost use Rattle.ws_lines.specs.Telling.{HasToldTurns, HasRoomForTurn, HasRoomForGot, CanEndLines};
-ghost use Rattle.ws_lines.specs.Telling.{TellsTurn, TellsGot, TellsFirstGot, TellsEnd};
+ghost use Rattle.ws_lines.specs.Telling.{MarksGot, MarksSent, TellsTurn, TellsGot, TellsFirstGot, TellsEnd};
 
 use crate::line_bytes::LineBytes;
 use std::alloc::Global;
@@ -23,6 +23,10 @@ pub struct Showing {
     pub tested: Role,
     /// How payloads are shown.
     pub style: DataStyle,
+    /// Where the frame begins, of those that the tester sent, that is marked.
+    pub sent_fault: Option<u64>,
+    /// The same of those that the tested end sent.
+    pub got_fault: Option<u64>,
 }
 
 /// The lines of a transcript that goes on: each is written as soon as its place in the order is certain. Memory is
@@ -44,19 +48,33 @@ impl TranscriptLines {
             from: tester_of(showing.tested),
             mark: Mark::Sent,
             style: showing.style,
-            fault: None,
+            fault: showing.sent_fault,
         };
         let got = Source {
             from: showing.tested,
             mark: Mark::Got,
             style: showing.style,
-            fault: None,
+            fault: showing.got_fault,
         };
         TranscriptLines {
             turns: 0,
             sent: FrameLines::new(alloc, sent),
             got: FrameLines::new(alloc, got),
         }
+    }
+
+    /// Of the frames that the tester sends the one at this place is marked, whose line isn't written yet.
+    pub fn mark_sent(&mut self, place: u64)
+        ensures marked { MarksSent self.old self.new place }
+    {
+        self.sent.mark(place);
+    }
+
+    /// The same of the frames that the tested end sends.
+    pub fn mark_got(&mut self, place: u64)
+        ensures marked { MarksGot self.old self.new place }
+    {
+        self.got.mark(place);
     }
 
     /// The next turn begins, in which the tester sends these bytes: writes its line, and the lines of the frames that

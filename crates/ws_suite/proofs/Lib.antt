@@ -3,7 +3,7 @@
 mod EvidenceLemmas
 mod TurnsCollected
 mod QuietStreams
-mod SeenStreams
+pub mod SeenStreams
 mod JudgeLemmas
 mod NotedLemmas
 mod PlaceLemmas
@@ -45,7 +45,7 @@ mod KeptLemmas
 mod ChosenLemmas
 mod AnsweredLemmas
 mod TurnBytes
-mod StreamEndLemmas
+pub mod StreamEndLemmas
 mod FoundLemmas
 mod ToldLemmas
 mod FrontFrames

@@ -79,7 +79,8 @@ loose_rule tested loose.PongElsewhere =
     ++ codes "and messages in the order of what they answer (ours)"
 loose_rule tested loose.OtherCode =
     codes "A close frame after a violation has the code for that violation (RFC 6455 section 7.4.1), and one "
-    ++ codes "that answers a valid close frame typically has its code (section 5.5.1)"
+    ++ codes "that answers a valid close frame typically has its code (section 5.5.1); another code is told also "
+    ++ codes "of an endpoint that closes first (ours)"
 loose_rule Server loose.LateEnd =
     codes "After a close frame a server closes the connection immediately (RFC 6455 section 5.5.1), and after"
     ++ codes " a violation it should (section 7.1.1)"

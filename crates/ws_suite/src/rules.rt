@@ -88,7 +88,7 @@ fn loose_rule(tested: Role, why: LooseWhy) -> &'static str
         LooseWhy::OtherCode =>
             "A close frame after a violation has the code for that violation (RFC 6455 section \
              7.4.1), and one that answers a valid close frame typically has its code (section \
-             5.5.1)",
+             5.5.1); another code is told also of an endpoint that closes first (ours)",
         LooseWhy::LateEnd => match tested {
             Role::Server =>
                 "After a close frame a server closes the connection immediately (RFC 6455 section 5.5.1), and \

@@ -1,0 +1,2 @@
+pub mod PayloadFaults
+pub mod Finding
