@@ -1,10 +1,11 @@
 -- A line behind a total is read in one way.
-use Rattle.std.proofs.Common.{◌≡◌, ◌≢◌, ◌∙◌, ℕ, ◌↔◌, Bool, false, IsTrue, rules, List, [], ◌∷◌, ◌++◌, codes, ap, ap₂, sym, subst, refl, arith, All}
+use Rattle.std.proofs.Common.{◌≡◌, ◌≢◌, ◌∙◌, ℕ, ◌↔◌, ◌⊎◌, inl, inr, Bool, false, IsTrue, rules, List, [], ◌∷◌, ◌++◌, codes, ap, ap₂, sym, subst, refl, arith, All}
 use Rattle.std.proofs.lemmas.Bool.{false≢true}
 use Rattle.std.proofs.lemmas.List.Elements.{All-append, All-cons, All-head, All-same, All-tail, All-weaker}
 use Rattle.std.specs.Char.{is_ascii_digit}
 use Rattle.ws_reports.specs.Cutting.{AreFurtherDigits, IsCutAtDigit, IsCutAtFirst, IsNoDigit}
-use Rattle.ws_reports.specs.KnownLines.{HasCount, IsCount, IsCountedVerdict, IsNamedVerdict, IsVerdictLine, StandsFirst}
+use Rattle.ws_reports.specs.KnownLines.{HasCount, IsBehindTotal, IsBesideCases, IsCount, IsCountedVerdict, IsNamedVerdict}
+use Rattle.ws_reports.specs.KnownLines.{IsTotal, IsVerdictLine, StandsFirst}
 use Rattle.ws_reports.specs.Verdicts.{IsVerdict}
 use Rattle.ws_reports.proofs.Cuts.{no_cut, one_cut, same_front, same_rest}
 use Rattle.ws_reports.proofs.Parts.{digit_bounds, one_rest, told_false, verdict_no_colon, verdict_no_digit}
@@ -137,3 +138,20 @@ behind_then P line front rest answer e h = (
   λ so. (rest, e, h.0 so),
   λ (behind, e', p). h.1 (subst P (same_rest front behind rest (sym e' ∙ e)) p),
 )
+
+-- ---- beside cases
+
+-- where it is none of the others, a line stands beside cases if it is behind a total
+pub last_beside : (line : List ℕ) (total below listening behind : Bool)
+    → (IsTrue total ↔ IsTotal line) → total ≡ false
+    → (IsTrue below ↔ StandsFirst (codes " ") line) → below ≡ false
+    → (IsTrue listening ↔ StandsFirst (codes "listening on ") line) → listening ≡ false
+    → (IsTrue behind ↔ IsBehindTotal line) → (IsTrue behind ↔ IsBesideCases line)
+last_beside line total below listening behind t not_total b not_below l not_listening h =
+    (λ so. inr (inr (inr (h.0 so))), λ beside. back beside)
+  where
+    back : IsBesideCases line → IsTrue behind
+    back (inl e) = absurd (false≢true (sym not_total ∙ t.1 e))
+    back (inr (inl e)) = absurd (false≢true (sym not_below ∙ b.1 e))
+    back (inr (inr (inl e))) = absurd (false≢true (sym not_listening ∙ l.1 e))
+    back (inr (inr (inr e))) = h.1 e

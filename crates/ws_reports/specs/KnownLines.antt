@@ -76,9 +76,14 @@ IsVerdictLine line =
 abbrev pub IsKnownCounts : List ℕ → Type 0
 IsKnownCounts line = (counts : List ℕ) × (line ≡ codes "known: " ++ counts) × CountsSame counts
 
--- a line behind a total: one of a summary, one of these counts, or how a proxy passed the cases on
+-- how many cases a run that was cut off had, as `2 of 240 run`
+abbrev pub IsRunCount : List ℕ → Type 0
+IsRunCount line = (rest : List ℕ) × HasCount (codes "of ") rest line × HasCount (codes "run") [] rest
+
+-- a line behind a total: one of a summary, one of these counts, how a proxy passed the cases on, or how many were run
 abbrev pub IsBehindTotal : List ℕ → Type 0
-IsBehindTotal line = IsVerdictLine line ⊎ IsKnownCounts line ⊎ StandsFirst (codes "passed on: ") line
+IsBehindTotal line =
+    IsVerdictLine line ⊎ IsKnownCounts line ⊎ StandsFirst (codes "passed on: ") line ⊎ IsRunCount line
 
 -- a total, or what is behind it; what stands below the line of a case; or where clients were waited for
 abbrev pub IsBesideCases : List ℕ → Type 0

@@ -29,6 +29,17 @@ abbrev pub told_failed : Option (List KnownLine) → ToldValue → Bool
 told_failed None told = tells_fail told.verdict
 told_failed (Some lines) told = is_otherwise (known_verdict told.id lines) told.verdict
 
+-- Why a case is said to have failed though its verdict is no Fail: none is known of it, or the Fail that is known is
+-- gone.
+abbrev pub reason_beside : Option (List ℕ) → List ℕ
+reason_beside None = codes "no known verdict: write the known verdicts again\n"
+reason_beside (Some known) = if tells_fail known then codes "fixed: write the known verdicts again\n" else []
+
+-- nothing, where its verdict is a Fail or no earlier run is known
+abbrev pub reason_on : Option (List KnownLine) → ToldValue → List ℕ
+reason_on None told = []
+reason_on (Some lines) told = if tells_fail told.verdict then [] else reason_beside (known_verdict told.id lines)
+
 -- ---- inside the crate
 
 abbrev pub remark_words : Remark → List ℕ

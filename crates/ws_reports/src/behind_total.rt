@@ -3,19 +3,19 @@
 ghost use Rattle.std.specs.Prelude.{◌≡◌, ◌≢◌, ◌↔◌, IsTrue, codes};
 ghost use Rattle.ws_reports.specs.Cutting.{AreFurtherDigits, CutsAtDigit};
 ghost use Rattle.ws_reports.specs.KnownLines.{CountsFixed, CountsNew, CountsSame, IsBehindTotal, IsCountedVerdict};
-ghost use Rattle.ws_reports.specs.KnownLines.{IsKnownCounts, IsNamedVerdict, IsVerdictLine, StandsFirst};
+ghost use Rattle.ws_reports.specs.KnownLines.{IsKnownCounts, IsNamedVerdict, IsRunCount, IsVerdictLine, StandsFirst};
 ghost use Rattle.ws_reports.specs.Verdicts.{IsVerdict};
 
 use crate::cutting::{behind, cut_at, front_of};
 use crate::known_line::{begins_with, behind_count, is_count_of};
 use crate::verdict_words::is_verdict;
 
-/// Whether a line stands behind the total of a run: a verdict with its cases, how cases stand beside an earlier run, or
-/// how a proxy passed them on.
+/// Whether a line stands behind the total of a run: a verdict with its cases, how cases stand beside an earlier run,
+/// how a proxy passed them on, or how many of them were run.
 pub(crate) fn is_behind_total(line: &[u8]) -> bool
     ensures { IsTrue result ↔ IsBehindTotal line.now }
 {
-    is_tally(line) || is_counts(line) || begins_with(line, b"passed on: ")
+    is_tally(line) || is_counts(line) || begins_with(line, b"passed on: ") || is_run_count(line)
 }
 
 /// Whether a line has a verdict other than PASS, how many cases have it, and these.
@@ -130,6 +130,16 @@ fn counts_fixed(line: &[u8]) -> bool
 {
     match behind_count(line, b"fixed, ") {
         Some(rest) => is_count_of(rest, b"changed"),
+        None => false,
+    }
+}
+
+/// Whether a line tells how many cases a run that was cut off had.
+fn is_run_count(line: &[u8]) -> bool
+    ensures { IsTrue result ↔ IsRunCount line.now }
+{
+    match behind_count(line, b"of ") {
+        Some(rest) => is_count_of(rest, b"run"),
         None => false,
     }
 }

@@ -38,10 +38,16 @@ impl Line for KnownLine {
 pub fn is_beside_cases(line: &[u8]) -> bool
     ensures { IsTrue result ↔ IsBesideCases line.now }
 {
-    is_total(line)
-        || begins_with(line, b" ")
-        || begins_with(line, b"listening on ")
-        || is_behind_total(line)
+    if is_total(line) {
+        return true;
+    }
+    if begins_with(line, b" ") {
+        return true;
+    }
+    if begins_with(line, b"listening on ") {
+        return true;
+    }
+    is_behind_total(line)
 }
 
 /// Whether bytes begin with these.

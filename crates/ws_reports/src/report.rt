@@ -1,10 +1,10 @@
 //! How a run tells what comes of its cases.
 
-ghost use Rattle.std.specs.Prelude.{◌≡◌, IfOk, false, true, string_bytes, if◌then◌else◌};
-ghost use Rattle.ws_reports.specs.Junit.{noted_case, noted_text};
+ghost use Rattle.std.specs.Prelude.{◌≡◌, ◌++◌, IfOk, Some, false, true, string_bytes, if◌then◌else◌};
+ghost use Rattle.ws_reports.specs.Junit.{failed_case, noted_case, noted_text};
 ghost use Rattle.ws_reports.specs.Kept.{verdict_kept};
 ghost use Rattle.ws_reports.specs.KnownCounts.{change_on, known_line};
-ghost use Rattle.ws_reports.specs.Remarks.{remark_on, remark_words, told_failed};
+ghost use Rattle.ws_reports.specs.Remarks.{reason_beside, reason_on, remark_on, remark_words, told_failed};
 ghost use Rattle.ws_reports.specs.Reports.{case_element, case_text, element_by, end_text, start_text, told_words};
 ghost use Rattle.ws_reports.specs.Told.{texts_of};
 
@@ -19,6 +19,12 @@ use crate::verdict_words::{is_same_verdict, tells_fail};
 use std::alloc::Global;
 use std::marker::Model;
 use ws_base::{NoMemory, Payload};
+
+/// Why a case is said to have failed that passed, and of which nothing is known.
+const NO_KNOWN: &str = "no known verdict: write the known verdicts again\n";
+
+/// The same, where a Fail is known of it.
+const FIXED: &str = "fixed: write the known verdicts again\n";
 
 /// How a run tells what comes of its cases: whether as a JUnit document, whether a summary stands behind them, and
 /// beside which earlier run, if one is known.
@@ -94,7 +100,31 @@ impl Report {
         ensures { IfOk result (λ text. string_bytes text ≡ case_element self.now (texts_of told.entry)) }
     {
         let name = format!(in alloc; "{} {}", told.id, told.title)?;
-        element_by(alloc, self.is_failed(told), told, name.as_str(), words)
+        let reason = self.reason(told);
+        element_by(
+            alloc,
+            self.is_failed(told),
+            reason,
+            told,
+            name.as_str(),
+            words,
+        )
+    }
+
+    /// Why a case is said to have failed whose verdict is no Fail.
+    fn reason(&self, told: Told<'_>) -> &'static str
+        ensures { result.now ≡ reason_on self.now.known (texts_of told.entry) }
+    {
+        let Some(known) = &self.known else {
+            return "";
+        };
+        if tells_fail(told.verdict.as_bytes()) {
+            return "";
+        }
+        match known.verdict_of(told.id) {
+            None => NO_KNOWN,
+            Some(words) => reason_since(words),
+        }
     }
 
     /// The words of a case's verdict, and what stands behind them.
@@ -191,18 +221,31 @@ impl Report {
     }
 }
 
-/// The element of a case of this name in a JUnit document, with these words.
+/// Why a case is said to have failed whose verdict is no Fail, where these words are known of it.
+fn reason_since(known: &str) -> &'static str
+    ensures { result.now ≡ reason_beside (Some known.now) }
+{
+    if tells_fail(known.as_bytes()) {
+        FIXED
+    } else {
+        ""
+    }
+}
+
+/// The element of a case of this name in a JUnit document, with these words, and this reason where it failed.
 fn element_by(
     alloc: Global,
     is_failed: bool,
+    reason: &str,
     told: Told<'_>,
     name: &str,
     words: &str,
 ) -> Result<String, NoMemory>
-    ensures { IfOk result (λ text. string_bytes text ≡ element_by is_failed (texts_of told.entry) name.now words.now) }
+    ensures { IfOk result (λ text. string_bytes text
+        ≡ element_by is_failed reason.now (texts_of told.entry) name.now words.now) }
 {
     if is_failed {
-        failed_case(alloc, name, told.verdict, words, told.below)
+        failed_element(alloc, reason, told, name, words)
     } else if told.verdict == "PASS" {
         passed_case(alloc, name)
     } else if tells_fail(told.verdict.as_bytes()) {
@@ -210,6 +253,22 @@ fn element_by(
     } else {
         noted_element(alloc, name, words, told.below)
     }
+}
+
+/// The element of a case that failed, with these words, this reason and the lines below its line.
+fn failed_element(
+    alloc: Global,
+    reason: &str,
+    told: Told<'_>,
+    name: &str,
+    words: &str,
+) -> Result<String, NoMemory>
+    ensures { IfOk result (λ element. string_bytes element
+        ≡ failed_case name.now told.entry.verdict.now words.now (reason.now ++ told.entry.below.now)) }
+{
+    let below = told.below;
+    let text = format!(in alloc; "{reason}{below}")?;
+    failed_case(alloc, name, told.verdict, words, text.as_str())
 }
 
 /// The element of a case that did not fail, with these words and the lines below them.

@@ -3,10 +3,13 @@ mod PutLemmas
 mod NoResult
 mod Walks
 mod Marked
-mod Sorting
 mod Following
 mod IdRuns
 mod CheckLemmas
 mod ReadLemmas
+mod RowLemmas
 mod PassedLines
 mod NoCharacters
+mod Counted
+mod Frequent
+mod CellLemmas

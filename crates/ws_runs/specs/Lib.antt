@@ -2,10 +2,12 @@ pub mod RunLines
 pub mod Names
 pub mod NameLines
 pub mod Runs
+pub mod Rows
 pub mod Marks
 pub mod Shown
 pub mod Json
 pub mod Summary
+pub mod Tallies
 pub mod Places
 pub mod Checking
 pub mod Views

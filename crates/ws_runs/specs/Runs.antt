@@ -29,6 +29,17 @@ pub record RunsValue : Type 0 where
 abbrev pub cell_of : List ResultValue → List ℕ → Option ResultValue
 cell_of cells id = find (λ (cell : ResultValue). bytes_eq cell.id id) cells
 
+-- the peer of a name, and what counts of a case in its run
+abbrev pub peer_of : List PeerValue → List ℕ → Option PeerValue
+peer_of peers name = find (λ (peer : PeerValue). bytes_eq peer.name name) peers
+
+abbrev pub cell_beside : Option PeerValue → List ℕ → Option ResultValue
+cell_beside None id = None
+cell_beside (Some peer) id = cell_of peer.cells id
+
+abbrev pub cell_in : RunsValue → List ℕ → List ℕ → Option ResultValue
+cell_in runs name id = cell_beside (peer_of runs.peers name) id
+
 -- the names of cases
 abbrev pub case_ids : List ResultValue → List (List ℕ)
 case_ids results = map (λ (result : ResultValue). result.id) results

@@ -3,10 +3,9 @@
 
 ghost use Rattle.std.specs.Prelude.{◌≡◌, [], IfOk, Some, map, string_bytes};
 ghost use Rattle.ws_runs.specs.Summary.{are_one_section, begins_with_name, follows, goes_on, has_dot, longer_run};
-ghost use Rattle.ws_runs.specs.Summary.{run_of_one, run_text, id_runs_of, runs_text, with_cell, with_id};
-ghost use Rattle.ws_runs.specs.Views.{result_value, result_values, run_value, run_values};
+ghost use Rattle.ws_runs.specs.Summary.{id_runs_of, run_of_one, run_text, runs_text, with_id};
+ghost use Rattle.ws_runs.specs.Views.{run_value, run_values, texts_now};
 
-use crate::result::CaseResult;
 use crate::shown::ShownBytes;
 use std::alloc::Global;
 use std::fmt;
@@ -21,37 +20,20 @@ pub(crate) struct IdRun<'a> {
     between: bool,
 }
 
-/// The cases with these words.
+/// These cases.
 pub(crate) fn id_runs_of<'a>(
     alloc: Global,
-    cells: &[CaseResult<'a>],
-    words: &[u8],
+    ids: &[&'a [u8]],
     listed: &[String],
 ) -> Result<Vec<IdRun<'a>>, NoMemory>
     ensures { IfOk result (λ runs. run_values runs.items
-        ≡ id_runs_of (map string_bytes listed.now) (result_values cells.now) words.now) }
+        ≡ id_runs_of (map string_bytes listed.now) (texts_now ids.now)) }
 {
     let mut runs = Vec::new(alloc);
-    for case in cells {
-        put_cell(case, words, listed, &mut runs)?;
+    for id in ids {
+        put_id(*id, listed, &mut runs)?;
     }
     Ok(runs)
-}
-
-/// Appends a case to the runs, if its cell has these words.
-fn put_cell<'a>(
-    case: &CaseResult<'a>,
-    words: &[u8],
-    listed: &[String],
-    runs: &mut Vec<IdRun<'a>>,
-) -> Result<(), NoMemory>
-    ensures { IfOk result (λ _. run_values runs.new.items
-        ≡ with_cell (map string_bytes listed.now) words.now (run_values runs.old.items) (result_value case.now)) }
-{
-    if case.words == words {
-        put_id(case.id, listed, runs)?;
-    }
-    Ok(())
 }
 
 /// Appends a case to the runs: to the last one, if it goes on with that.

@@ -1,12 +1,11 @@
--- The runs so far, and the cells that are left.
+-- The runs so far, and the cases that are left.
 use Rattle.std.proofs.Common.{◌≡◌, drop, map, string_bytes}
 use Rattle.std.specs.List.{fold}
-use Rattle.ws_runs.specs.Summary.{id_runs_of, with_cell}
-use Rattle.ws_runs.specs.Views.{result_value, result_values, run_values}
+use Rattle.ws_runs.specs.Summary.{id_runs_of, with_id}
+use Rattle.ws_runs.specs.Views.{run_values, texts_now}
 use Rattle.ws_runs.proofs.id_runs.id_runs_of.Given as goal
 
-abbrev pub invariant-loop-case : goal.invariant-loop-case
-invariant-loop-case l =
-    fold (with_cell (map string_bytes l.listed) l.words) (run_values l.runs.items)
-    (map result_value (drop l.case-index l.cells))
-    ≡ id_runs_of (map string_bytes l.listed) (result_values l.cells) l.words
+abbrev pub invariant-loop-id : goal.invariant-loop-id
+invariant-loop-id l =
+    fold (with_id (map string_bytes l.listed)) (run_values l.runs.items) (texts_now (drop l.id-index l.ids))
+    ≡ id_runs_of (map string_bytes l.listed) (texts_now l.ids)

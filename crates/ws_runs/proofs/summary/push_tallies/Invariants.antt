@@ -2,10 +2,9 @@
 use Rattle.std.proofs.Common.{◌≡◌, ◌++◌, map, string_bytes, take}
 use Rattle.std.specs.List.{flat_map}
 use Rattle.ws_runs.specs.Summary.{tally_line}
-use Rattle.ws_runs.specs.Views.{result_values}
 use Rattle.ws_runs.proofs.summary.push_tallies.Given as goal
 
-abbrev pub invariant-loop-words : goal.invariant-loop-words
-invariant-loop-words l = string_bytes l.text
+abbrev pub invariant-loop-tally : goal.invariant-loop-tally
+invariant-loop-tally l = string_bytes l.text
     ≡ string_bytes l.initial.text
-    ++ flat_map (tally_line (map string_bytes l.listed) (result_values l.cells)) (take l.words-index l.words-items)
+    ++ flat_map (tally_line (map string_bytes l.listed)) (take l.tally-index l.tally-items)
