@@ -1,13 +1,11 @@
 -- A text on a page, where it is UTF-8 and where it isn't; and the rows of a page, one after the other.
-use Rattle.std.proofs.Common.{◌≡◌, ◌∙◌, ◌+◌, ◌<◌, ℕ, zero, suc, Bool, true, false, ◌||◌, List, [], ◌∷◌, ◌++◌, ap, arith}
+use Rattle.std.proofs.Common.{◌≡◌, ◌∙◌, ◌+◌, ◌<◌, ℕ, Bool, true, false, List, [], ◌∷◌, ◌++◌, ap, arith}
 use Rattle.std.proofs.Common.{drop, flat_map, get_or, length, refl, sym, if◌then◌else◌}
 use Rattle.std.proofs.lemmas.List.{drop_more}
 use Rattle.std.proofs.lemmas.Str.{IsUtf8-from_is_utf8, chars-nil, is_utf8-from_IsUtf8}
 use Rattle.std.specs.Borrow.{Bor}
 use Rattle.std.specs.Fmt.{HasWritten}
 use Rattle.std.specs.declared.fmt.Formatter.{Formatter}
-use Rattle.std.specs.Str.{bytes_eq}
-use Rattle.ws_runs.specs.Names.{is_among}
 use Rattle.ws_runs.specs.Views.{texts_now}
 use Rattle.ws_pages.specs.Page.{TableValue, group_of, row_in_group, rows_from}
 use Rattle.ws_pages.proofs.Marked.{Goes, text_step}
@@ -41,19 +39,6 @@ no_characters (byte ∷ bytes) none = absurd (omega (arith, none))
 -- what stands where a list has no element
 abbrev pub no_text : Bor (List ℕ)
 no_text = record { ref_ptr = (0, 0); now = [] }
-
-or_true : (b : Bool) → (b || true) ≡ true
-or_true true = refl
-or_true false = refl
-
--- a name that is met is there
-pub name_there : (names : List (Bor (List ℕ))) (i : ℕ) (name : List ℕ) → i < length names
-    → bytes_eq (get_or names i no_text).now name ≡ true → is_among name (texts_now names) ≡ true
-name_there [] i name less is = absurd (omega (arith, less))
-name_there (first ∷ names) zero name less is = ap (λ (b : Bool). b || is_among name (texts_now names)) is
-name_there (first ∷ names) (suc i) name less is =
-    ap (λ (b : Bool). bytes_eq first.now name || b) (name_there names i name (omega (arith, less)) is)
-    ∙ or_true (bytes_eq first.now name)
 
 -- one row more is written
 pub rows_step : {W : Type 0} (took : W → List ℕ → W → Type 0) (f g h : Formatter W) (table : TableValue)

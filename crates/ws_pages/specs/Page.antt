@@ -5,7 +5,7 @@ use Rattle.std.specs.List.{concat, count_by, list_all}
 use Rattle.std.specs.Fmt.{decimal}
 use Rattle.std.specs.Str.{bytes_eq}
 use Rattle.ws_runs.specs.Marks.{cell_mark, mark_of_words, same_mark, why_of}
-use Rattle.ws_runs.specs.Names.{is_among}
+use Rattle.ws_runs.specs.Rows.{row_ids}
 use Rattle.ws_runs.specs.Runs.{PeerValue, ResultValue, RunsValue, cell_of}
 use Rattle.ws_runs.specs.declared.mark.Mark.{Mark}
 use Rattle.ws_runs.specs.declared.mark.Mark.TheVariants.{Fail, Loose, Missing, NoConnection, Pass}
@@ -219,6 +219,19 @@ count_of ids peer mark = count_by (λ id. same_mark (mark_at id peer) mark) ids
 abbrev pub fails_of : List (List ℕ) → PeerValue → ℕ
 fails_of ids peer = count_of ids peer Fail + count_of ids peer NoConnection
 
+-- a result says that its case wasn't run: no client asked for it
+abbrev pub was_not_run : Option ResultValue → Bool
+was_not_run None = false
+was_not_run (Some result) = bytes_eq result.words (codes "FAIL NotRun")
+
+-- how many of these cases have such a result of a peer
+abbrev pub count_not_run : List (List ℕ) → PeerValue → ℕ
+count_not_run ids peer = count_by (λ id. was_not_run (cell_of peer.cells id)) ids
+
+-- how many of those that fail weren't run, if there are any
+abbrev pub not_run_html : ℕ → List ℕ
+not_run_html count = if count == 0 then [] else concat (codes " (" ∷ decimal count ∷ codes " not run)" ∷ [])
+
 -- what more is said of a peer
 abbrev pub note_html : List ℕ → List ℕ
 note_html note = concat (codes "<div>" ∷ on_page note ∷ codes "</div>" ∷ [])
@@ -229,8 +242,9 @@ notes_html notes = flat_map note_html notes
 -- the counts of a peer
 abbrev pub counts_html : List (List ℕ) → PeerValue → List ℕ
 counts_html ids peer = concat (codes "<td>" ∷ decimal (count_of ids peer Pass) ∷ codes "</td><td>"
-    ∷ decimal (count_of ids peer Loose) ∷ codes "</td><td>" ∷ decimal (fails_of ids peer) ∷ codes "</td><td>"
-    ∷ decimal (count_of ids peer Missing) ∷ codes "</td>" ∷ [])
+    ∷ decimal (count_of ids peer Loose) ∷ codes "</td><td>" ∷ decimal (fails_of ids peer)
+    ∷ not_run_html (count_not_run ids peer) ∷ codes "</td><td>" ∷ decimal (count_of ids peer Missing) ∷ codes "</td>"
+    ∷ [])
 
 -- the totals of a peer
 abbrev pub total_html : List (List ℕ) → PeerValue → List ℕ
@@ -275,20 +289,6 @@ table_html table = concat (codes "<main><table class=\"wide\">\n<thead><tr><th s
 abbrev pub page_html : PageFrame → List ℕ → TableValue → List ℕ
 page_html frame date table = concat (top_html frame date table ∷ frame.fails ∷ filter_html frame.filter table.peers
     ∷ table_html table ∷ frame.back ∷ [])
-
--- there are peers, and the run of each was cut off
-abbrev pub are_cut_off : List PeerValue → Bool
-are_cut_off [] = false
-are_cut_off (first ∷ others) = list_all (λ (peer : PeerValue). peer.is_cut_off) (first ∷ others)
-
--- the listed cases that are none of these
-abbrev pub others_listed : List (List ℕ) → List (List ℕ) → List (List ℕ)
-others_listed ids listed = filter (λ name. not (is_among name ids)) listed
-
--- the rows: the cases that have a result; after them the other listed ones, if no run was whole, since then no run
--- shows which cases were to be run
-abbrev pub row_ids : RunsValue → List (List ℕ) → List (List ℕ)
-row_ids runs listed = if are_cut_off runs.peers then runs.ids ++ others_listed runs.ids listed else runs.ids
 
 -- the table with these columns and rows
 abbrev pub table_with : List PeerValue → List (List ℕ) → PageTextsValue → TableValue

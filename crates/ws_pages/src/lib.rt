@@ -13,7 +13,6 @@ mod named_text;
 mod page;
 mod panel_html;
 mod row_html;
-mod rows;
 mod short_name;
 mod style;
 mod table;

@@ -1,7 +1,9 @@
 //! The letter and the class of a mark, and the marks of a row.
 
 ghost use Rattle.std.specs.Prelude.{◌≡◌, Some};
-ghost use Rattle.ws_pages.specs.Page.{count_of, have_mark, is_same, mark_at, mark_class, mark_letter, row_class};
+ghost use Rattle.ws_pages.specs.Page.{count_not_run, count_of, have_mark, is_same, mark_at, mark_class, mark_letter};
+ghost use Rattle.ws_pages.specs.Page.{row_class, was_not_run};
+ghost use Rattle.ws_runs.specs.Runs.{cell_of};
 ghost use Rattle.ws_runs.specs.Views.{texts_now};
 
 use std::fmt;
@@ -50,6 +52,29 @@ pub(crate) fn count_of<'a>(ids: &[&'a [u8]], peer: &Peer<'a>, mark: Mark) -> usi
         }
     }
     count
+}
+
+/// How many of these cases have a result of a peer that says that they weren't run.
+pub(crate) fn count_not_run<'a>(ids: &[&'a [u8]], peer: &Peer<'a>) -> usize
+    ensures { result ≡ count_not_run (texts_now ids.now) peer.now }
+{
+    let mut count = 0;
+    for id in ids {
+        if was_not_run(id, peer) {
+            count += 1;
+        }
+    }
+    count
+}
+
+/// Whether the result of a peer and a case says that it wasn't run.
+fn was_not_run<'a>(id: &'a [u8], peer: &Peer<'a>) -> bool
+    ensures { result ≡ was_not_run (cell_of peer.now.cells id.now) }
+{
+    match peer.cell(id) {
+        Some(case) => case.words == b"FAIL NotRun".as_slice(),
+        None => false,
+    }
 }
 
 /// The class that gives a mark its form and color.

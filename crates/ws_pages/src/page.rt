@@ -9,14 +9,13 @@ ghost use Rattle.ws_runs.specs.Views.{texts_now};
 use crate::head_html::HeadsHtml;
 use crate::panel_html::Paragraph;
 use crate::row_html::RowsHtml;
-use crate::rows::row_ids;
 use crate::style::{BACK, FAILS, FILTER, FRONT, LEGEND};
 use crate::table::{PageTexts, Table};
 use crate::total_html::TotalsHtml;
 use std::alloc::Global;
 use std::fmt;
 use ws_base::NoMemory;
-use ws_runs::{Peer, Runs};
+use ws_runs::{Peer, Runs, row_ids};
 
 /// The page of these runs, with a date or another text for its head, which may be empty: a table with a row for each
 /// case and a column for each peer. If no run was whole, the listed cases have rows too.

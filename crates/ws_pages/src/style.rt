@@ -33,12 +33,13 @@ label { margin-right: 1rem; }
 .totals b { font-weight: normal; margin-right: .6rem; }
 .totals div { color: var(--soft); }
 main { margin-top: .75rem; }
+.wide { min-width: min(48rem, 100%); }
 .wide thead th { position: sticky; z-index: 2; top: 0; }
 .wide th:first-child { position: sticky; z-index: 1; left: 0; background: var(--head); }
 .wide thead th:first-child { z-index: 3; }
 .wide th span { margin-left: .4rem; color: var(--soft); }
 .wide .end { padding: .3rem 0; text-align: center; white-space: nowrap; }
-.wide .end span { color: inherit; }
+.wide .end span { margin: 0; color: inherit; }
 .end span, .end small { display: inline-block; vertical-align: bottom; writing-mode: vertical-rl;
   transform: rotate(180deg); }
 .end:nth-child(2):last-child span, .end:nth-child(2):last-child small { display: block; padding: 0 .3rem;
@@ -80,12 +81,16 @@ tbody:has(.group input:not(:checked)) tr:not(.group):not(:target):not(tr:target 
   .totals div, .totals small { margin-right: .6rem; }
 }
 @media (max-width: 40rem) {
-  .wide:has(.end:nth-child(5)) tbody th:first-child { max-width: 6.5rem; overflow: hidden; text-overflow: ellipsis;
+  .wide:has(.end:nth-child(5)) tbody th:first-child { max-width: 5rem; overflow: hidden; text-overflow: ellipsis;
     white-space: nowrap; }
+  .wide:has(.end:nth-child(5)) tr:target th:first-child { white-space: normal; overflow-wrap: anywhere; }
+  .wide:has(.end:nth-child(5)) td { width: 1.05rem; min-width: 1.05rem; }
+  .wide:has(.end:nth-child(5)) .end { line-height: 1.1; }
 }
 @media print {
   body { margin: 0; font-size: 9pt; }
   pre { font-size: 8pt; }
+  .wide { min-width: 0; }
   .wide td { width: auto; min-width: 1.2rem; }
   #fails, #differ, label[for], .group input, .panel a, tbody:has(.group input:not(:checked)):not(:has(:target)) {
     display: none; }
@@ -103,7 +108,7 @@ tbody:has(.group input:not(:checked)) tr:not(.group):not(:target):not(tr:target 
 
 /// What comes between the date and the totals.
 pub(crate) const LEGEND: &str = "
-<p>P pass, L loose, F fail, X no connection, - not run. Click a letter or a case for the frames sent, the results and
+<p>P pass, L loose, F fail, X no connection, - no line. Click a letter or a case for the frames sent, the results and
 the rules.</p>
 <table class=\"totals\">
 <thead><tr><th scope=\"col\">Peer</th><th scope=\"col\">P</th>

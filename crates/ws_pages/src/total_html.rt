@@ -2,14 +2,15 @@
 
 ghost use Rattle.std.specs.Prelude.{Some};
 ghost use Rattle.std.specs.Fmt.{decimal};
-ghost use Rattle.ws_pages.specs.Page.{count_of, counts_html, fails_of, note_html, notes_html, total_html, totals_html};
+ghost use Rattle.ws_pages.specs.Page.{count_not_run, count_of, counts_html, fails_of, not_run_html, note_html};
+ghost use Rattle.ws_pages.specs.Page.{notes_html, total_html, totals_html};
 ghost use Rattle.ws_pages.specs.PageText.{on_page};
 ghost use Rattle.ws_pages.specs.Views.{table_value};
 ghost use Rattle.ws_runs.specs.Views.{texts_now};
 
 use crate::escaping::Escaped;
 use crate::head_html::RunHtml;
-use crate::marks::count_of;
+use crate::marks::{count_not_run, count_of};
 use crate::table::Table;
 use std::fmt;
 use ws_runs::{Mark, Peer};
@@ -79,6 +80,7 @@ impl fmt::Display for CountsHtml<'_, '_, '_> {
             mark: Mark::Loose,
         };
         let fail = FailsHtml { ids, peer };
+        let not_run = NotRunHtml { ids, peer };
         let missing = CountHtml {
             ids,
             peer,
@@ -86,7 +88,7 @@ impl fmt::Display for CountsHtml<'_, '_, '_> {
         };
         write!(
             f,
-            "<td>{pass}</td><td>{loose}</td><td>{fail}</td><td>{missing}</td>"
+            "<td>{pass}</td><td>{loose}</td><td>{fail}{not_run}</td><td>{missing}</td>"
         )
     }
 }
@@ -136,6 +138,25 @@ impl fmt::Display for FailsHtml<'_, '_, '_> {
         let unconnected = count_of(self.ids, self.peer, Mark::NoConnection);
         let count = fails + unconnected;
         write!(f, "{count}")
+    }
+}
+
+/// How many of those that fail weren't run, if there are any.
+#[derive(Clone, Copy)]
+struct NotRunHtml<'p, 'i, 'a> {
+    ids: &'i [&'a [u8]],
+    peer: &'p Peer<'a>,
+}
+
+impl fmt::Display for NotRunHtml<'_, '_, '_> {
+    ghost output = { λ html. Some (not_run_html (count_not_run (texts_now html.ids.now) html.peer.now)) };
+
+    fn fmt<W: fmt::Write>(&self, f: &mut fmt::Formatter<W>) -> fmt::Result {
+        let count = count_not_run(self.ids, self.peer);
+        if count == 0 {
+            return Ok(());
+        }
+        write!(f, " ({count} not run)")
     }
 }
 
