@@ -1,8 +1,7 @@
 //! Rows of a loop that listens over the system's network.
 
-ghost use Rattle.std.specs.Prelude.{◌≡◌, ◌<◌, length, OnOk};
-ghost use Rattle.ws_loops.specs.Rounds.{AreAble};
-ghost use Rattle.test_loops.specs.Noted.{noted_agrees, noted_wants};
+ghost use Rattle.std.specs.Prelude.{◌≡◌, ◌<◌, length, Some, slice_get};
+ghost use Rattle.ws_loops.specs.declared.places.Place.TheVariants.{Empty};
 
 use crate::counted::{counted, is_counted};
 use crate::echoes::number_of;
@@ -15,9 +14,7 @@ use std::alloc::Global;
 use std::fmt::Write;
 use std::net::Net;
 use std::time::Clock;
-use ws_loops::{
-    Arrival, Pace, Poller, Slot, empty_places, fill_place, run_until_client, take_slot,
-};
+use ws_loops::{Arrival, Loop, NoLines, Pace, Place, Poller, Slot};
 use ws_machines::Machine;
 use ws_networks::{Unheard, listen};
 use wst_network::{ConnectMiss, system_network};
@@ -60,7 +57,7 @@ pub fn run_accepting<N: Net + Clock>(
     let Ok((mut network, mut poller)) = system_network(alloc, net) else {
         return Err(RowFault::NoNetwork);
     };
-    match listen(alloc, &mut network, address, places) {
+    match listen(alloc, &mut network, address) {
         Ok(listener) => {
             let mut listener = PieceListener { listener, piece };
             serve_clients(alloc, &mut poller, &mut listener, places, service, out)?;
@@ -90,38 +87,14 @@ fn serve_clients<P: Poller>(
     service: Service,
     out: &mut String,
 ) -> Result<(), RowFault> {
-    let mut all = empty_places(alloc, len)?;
+    let mut all = Loop::new(alloc, len)?;
     let mut room = room(alloc)?;
-    serve_places(
-        alloc,
-        poller,
-        listener,
-        all.as_mut_slice(),
-        service,
-        room.as_mut_slice(),
-        out,
-    )?;
-    Ok(())
-}
-
-/// Serves clients in these places.
-fn serve_places<P: Poller>(
-    alloc: Global,
-    poller: &mut P,
-    listener: &mut PieceListener,
-    places: &mut [Option<Slot<NotedExchange, PieceStream>>],
-    service: Service,
-    room: &mut [u8],
-    out: &mut String,
-) -> Result<(), RowFault>
-    requires able { AreAble noted_agrees noted_wants places.old }
-    requires room { 0 < length room.old }
-{
+    let room = room.as_mut_slice();
     let mut left = service.count;
     let mut tries = ARRIVALS;
     'arrivals: while left > 0 && tries > 0 {
         tries -= 1;
-        let over = serve_next(alloc, poller, listener, places, service, room, out)?;
+        let over = serve_next(alloc, poller, listener, &mut all, service, room, out)?;
         left = left.saturating_sub(over);
     }
     Ok(())
@@ -133,25 +106,28 @@ fn serve_next<P: Poller>(
     alloc: Global,
     poller: &mut P,
     listener: &mut PieceListener,
-    places: &mut [Option<Slot<NotedExchange, PieceStream>>],
+    all: &mut Loop<NotedExchange, PieceStream>,
     service: Service,
     room: &mut [u8],
     out: &mut String,
 ) -> Result<usize, RowFault>
-    requires able { AreAble noted_agrees noted_wants places.old }
     requires room { 0 < length room.old }
-    ensures able { OnOk result (AreAble noted_agrees noted_wants places.new) }
     ensures len { length room.new ≡ length room.old }
 {
-    let until = service.until;
-    let arrival = run_until_client(alloc, poller, listener, places, until, room)?;
+    let until = if all.free_place().is_some() {
+        service.until
+    } else {
+        None
+    };
+    let arrival = all.run_listening(poller, &mut NoLines, listener, until, room)?;
     let now = poller.now();
     match arrival {
-        Arrival::Done(at) => {
-            tell_done(places, at, out)?;
+        Arrival::Ended(at) => {
+            tell_ended(all, at, out)?;
             return Ok(1);
         }
-        Arrival::Client(at, stream) => seat(alloc, places, at, now, service, stream)?,
+        Arrival::Client(at, stream) => seat(alloc, all, at, now, service, stream)?,
+        Arrival::Lost(_) => write!(out, "lost; ")?,
         Arrival::NotAccepted(_) => write!(out, "failed; ")?,
         Arrival::TooLate => {
             write!(out, "late at {} tenths", now / 100)?;
@@ -161,20 +137,19 @@ fn serve_next<P: Poller>(
     Ok(0)
 }
 
-/// Tells what came of the client in this place, which is done.
-fn tell_done(
-    places: &mut [Option<Slot<NotedExchange, PieceStream>>],
+/// Tells what came of the client in this place, which has ended.
+fn tell_ended(
+    all: &mut Loop<NotedExchange, PieceStream>,
     at: usize,
     out: &mut String,
-) -> Result<(), RowFault>
-    requires able { AreAble noted_agrees noted_wants places.old }
-    ensures able { OnOk result (AreAble noted_agrees noted_wants places.new) }
-{
-    if at >= places.len() {
+) -> Result<(), RowFault> {
+    if at >= all.len() {
         return Err(RowFault::NotARow);
     }
-    if let Some(slot) = take_slot(places, at) {
-        put_done(slot, out)?;
+    match all.take(at) {
+        Place::Open(slot) => put_done(slot, out)?,
+        Place::Broken => write!(out, "no memory; ")?,
+        Place::Empty => {}
     }
     Ok(())
 }
@@ -197,23 +172,18 @@ fn put_done(slot: Slot<NotedExchange, PieceStream>, out: &mut String) -> Result<
 /// Puts a client into its place.
 fn seat(
     alloc: Global,
-    places: &mut [Option<Slot<NotedExchange, PieceStream>>],
+    all: &mut Loop<NotedExchange, PieceStream>,
     at: usize,
     now: u64,
     service: Service,
     stream: PieceStream,
 ) -> Result<(), RowFault>
-    requires able { AreAble noted_agrees noted_wants places.old }
-    ensures able { OnOk result (AreAble noted_agrees noted_wants places.new) }
+    requires empty { slice_get all.old.places at ≡ Some Empty }
 {
-    if at >= places.len() {
-        return Err(RowFault::NotARow);
-    }
     let bytes = counted(alloc, service.len)?;
     let machine = NotedExchange::new(alloc, bytes, service.most);
     let pace = Pace::begun(now, None, None);
-    fill_place(
-        places,
+    all.put(
         at,
         Slot {
             machine,

@@ -70,8 +70,6 @@ impl BoundedEcho {
 impl NonBlocking for BoundedEcho {
     ghost use Rattle.std.specs.Prelude.{⊤};
 
-    type Fault = RowFault;
-
     ghost did = { λ old new deeds. ⊤ };
 
     fn try_read(&mut self, room: &mut [u8]) -> TryRead {
@@ -98,8 +96,4 @@ impl NonBlocking for BoundedEcho {
     }
 
     fn end_direction(&mut self) {}
-
-    fn report(&mut self, _lines: &[u8]) -> Result<(), RowFault> {
-        Ok(())
-    }
 }

@@ -1,18 +1,16 @@
 //! Rows of loops over streams that do by chance what streams do.
 
-ghost use Rattle.std.specs.Prelude.{◌≡◌, length, OnOk};
-ghost use Rattle.ws_loops.specs.Rounds.{AreAble};
-ghost use Rattle.test_loops.specs.Noted.{noted_agrees, noted_wants};
+ghost use Rattle.std.specs.Prelude.{◌≡◌, ◌≤◌, length};
 
 use crate::chance::Chance;
 use crate::listed_stream::{Found, Given, ListedStream};
 use crate::noted_exchange::NotedExchange;
 use crate::row_fault::RowFault;
-use crate::runs::{Tells, no_places, room, run_all};
+use crate::runs::{Tells, room, run_all};
 use std::alloc::Global;
 use std::collections::VecDeque;
 use std::fmt::Write;
-use ws_loops::{Pace, Poller, Readiness, Slot, WaitFailed, add_slot};
+use ws_loops::{Loop, Mark, Pace, Place, Poller, Readiness, Slot, WaitFailed, Wake};
 use ws_machines::Machine;
 
 /// How many things a list has.
@@ -31,12 +29,50 @@ pub fn run_chances(alloc: Global, words: &[&str], out: &mut String) -> Result<()
     let (Ok(seed), Ok(count)) = (seed.parse::<u64>(), count.parse::<usize>()) else {
         return Err(RowFault::NotARow);
     };
+    let tally = run_by(alloc, seed, count, None)?;
+    write!(out, "{} done, {} right", tally.done, tally.right)?;
+    Ok(())
+}
+
+/// `scarce SEED COUNT PLACE THINGS`: the same, but the exchange in this place has memory for so many things that it is
+/// told; and how many ended for want of memory.
+pub fn run_scarce(alloc: Global, words: &[&str], out: &mut String) -> Result<(), RowFault> {
+    let [seed, count, place, things] = words else {
+        return Err(RowFault::NotARow);
+    };
+    let (Ok(seed), Ok(count)) = (seed.parse::<u64>(), count.parse::<usize>()) else {
+        return Err(RowFault::NotARow);
+    };
+    let (Ok(place), Ok(memory)) = (place.parse::<usize>(), things.parse::<u64>()) else {
+        return Err(RowFault::NotARow);
+    };
+    let tally = run_by(alloc, seed, count, Some(Scarce { place, memory }))?;
+    write!(out, "{} done, {} right, ", tally.done, tally.right)?;
+    write!(out, "{} without memory", tally.lost)?;
+    Ok(())
+}
+
+/// The exchange in this place has memory for so many things that it is told.
+#[derive(Clone, Copy)]
+struct Scarce {
+    place: usize,
+    memory: u64,
+}
+
+/// Runs so many exchanges. What came of them.
+fn run_by(
+    alloc: Global,
+    seed: u64,
+    count: usize,
+    scarce: Option<Scarce>,
+) -> Result<Tally, RowFault> {
     let mut chance = Chance::new(seed);
     let mut wants = Vec::new(alloc);
-    let mut places = no_places(alloc);
-    add_slots(alloc, count, &mut chance, &mut places, &mut wants)?;
+    let mut all = Loop::new(alloc, count)?;
+    add_slots(alloc, count, scarce, &mut chance, &mut all, &mut wants)?;
     let mut poller = ChancePoller {
         chance,
+        places: count,
         answered: 0,
         left: WAITS,
     };
@@ -44,17 +80,11 @@ pub fn run_chances(alloc: Global, words: &[&str], out: &mut String) -> Result<()
         wants,
         right: 0,
         done: 0,
+        lost: 0,
     };
     let mut room = room(alloc)?;
-    run_all(
-        alloc,
-        &mut poller,
-        places.as_mut_slice(),
-        room.as_mut_slice(),
-        &mut tally,
-    )?;
-    write!(out, "{} done, {} right", tally.done, tally.right)?;
-    Ok(())
+    run_all(&mut poller, &mut all, room.as_mut_slice(), &mut tally)?;
+    Ok(tally)
 }
 
 /// What an exchange is to write, and what it is to get.
@@ -68,44 +98,50 @@ struct Wanted {
 fn add_slots(
     alloc: Global,
     count: usize,
+    scarce: Option<Scarce>,
     chance: &mut Chance,
-    places: &mut Vec<Option<Slot<NotedExchange, ListedStream>>>,
+    all: &mut Loop<NotedExchange, ListedStream>,
     wants: &mut Vec<Wanted>,
-) -> Result<(), RowFault>
-    requires { AreAble noted_agrees noted_wants places.old.items }
-    ensures { OnOk result (AreAble noted_agrees noted_wants places.new.items) }
-{
-    'slots: for _ in 0..count {
-        let wanted = add_one(alloc, chance, places)?;
+) -> Result<(), RowFault> {
+    for place in 0..count {
+        let wanted = add_one(alloc, memory_of(scarce, place), chance, all)?;
         wants.push(wanted)?;
     }
     Ok(())
 }
 
+/// For how many things the exchange in this place has memory.
+fn memory_of(scarce: Option<Scarce>, place: usize) -> u64 {
+    match scarce {
+        Some(scarce) if scarce.place == place => scarce.memory,
+        _ => u64::MAX,
+    }
+}
+
 /// Adds a slot. What it is to write and to get.
 fn add_one(
     alloc: Global,
+    memory: u64,
     chance: &mut Chance,
-    places: &mut Vec<Option<Slot<NotedExchange, ListedStream>>>,
-) -> Result<Wanted, RowFault>
-    requires { AreAble noted_agrees noted_wants places.old.items }
-    ensures { OnOk result (AreAble noted_agrees noted_wants places.new.items) }
-{
+    all: &mut Loop<NotedExchange, ListedStream>,
+) -> Result<Wanted, RowFault> {
     let writes = bytes_by(alloc, chance)?;
     let mut gets = Vec::new(alloc);
     let found = found_by(alloc, chance, &mut gets)?;
     let given = given_by(alloc, chance)?;
-    let machine = NotedExchange::new(alloc, writes.clone()?, usize::MAX);
+    let machine = NotedExchange::scarce(alloc, writes.clone()?, usize::MAX, memory);
     let stream = ListedStream::new(alloc, found, given);
     let pace = Pace::begun(0, None, None);
-    add_slot(
-        places,
-        Slot {
-            machine,
-            stream,
-            pace,
-        },
-    )?;
+    if let Some(at) = all.free_place() {
+        all.put(
+            at,
+            Slot {
+                machine,
+                stream,
+                pace,
+            },
+        );
+    }
     Ok(Wanted { writes, gets })
 }
 
@@ -154,6 +190,7 @@ fn given_by(alloc: Global, chance: &mut Chance) -> Result<VecDeque<Given>, RowFa
 #[derive(Drop)]
 struct ChancePoller {
     chance: Chance,
+    places: usize,
     answered: u64,
     left: u64,
 }
@@ -168,33 +205,45 @@ impl Poller for ChancePoller {
         self.answered
     }
 
-    fn wait(&mut self, ready: &mut [Readiness], _until: Option<u64>) -> Result<(), WaitFailed> {
+    fn wait(&mut self, found: &mut [Wake], _until: Option<u64>) -> Result<usize, WaitFailed> {
         if self.left == 0 {
             return Err(WaitFailed);
         }
         self.left -= 1;
-        mark(&mut self.chance, ready);
-        Ok(())
+        Ok(mark(&mut self.chance, self.places, found))
     }
 }
 
-/// Marks streams as ready by chance.
-fn mark(chance: &mut Chance, ready: &mut [Readiness])
-    ensures { length ready.new ≡ length ready.old }
+/// Finds streams ready by chance. How many.
+fn mark(chance: &mut Chance, places: usize, found: &mut [Wake]) -> usize
+    ensures len { length found.new ≡ length found.old }
+    ensures count { result ≤ length found.new }
 {
-    for one in ready.iter_mut() {
+    let Ok(bound) = u64::try_from(places) else {
+        return 0;
+    };
+    if bound == 0 {
+        return 0;
+    }
+    for one in found.iter_mut() {
+        let at = chance.below(bound);
         let read = chance.below(2) == 0;
         let write = chance.below(2) == 0;
-        *one = Readiness { read, write };
+        *one = Wake {
+            mark: Mark::Place(at),
+            ready: Readiness { read, write },
+        };
     }
+    found.len()
 }
 
-/// How many exchanges are done, and how many of these were told what they are to be.
+/// How many exchanges are done, how many of these were told what they are to be, and for how many memory ran out.
 #[derive(Drop)]
 struct Tally {
     wants: Vec<Wanted>,
     right: u64,
     done: u64,
+    lost: u64,
 }
 
 impl Tells<NotedExchange, ListedStream> for Tally {
@@ -202,8 +251,12 @@ impl Tells<NotedExchange, ListedStream> for Tally {
         &mut self,
         at: usize,
         _time: u64,
-        slot: Slot<NotedExchange, ListedStream>,
+        ended: Place<NotedExchange, ListedStream>,
     ) -> Result<(), RowFault> {
+        let Place::Open(slot) = ended else {
+            self.lost = self.lost.saturating_add(1);
+            return Ok(());
+        };
         let Slot {
             machine,
             stream,

@@ -1,17 +1,15 @@
 //! Rows of loops over echoes whose buffers are bounded.
 
-ghost use Rattle.std.specs.Prelude.{◌≡◌, length, OnOk};
-ghost use Rattle.ws_loops.specs.Rounds.{AreAble};
-ghost use Rattle.test_loops.specs.Noted.{noted_agrees, noted_wants};
+ghost use Rattle.std.specs.Prelude.{◌≡◌, ◌≤◌, length};
 
 use crate::bounded_echo::BoundedEcho;
 use crate::counted::{counted, is_counted};
 use crate::noted_exchange::NotedExchange;
 use crate::row_fault::RowFault;
-use crate::runs::{Tells, no_places, room, run_all};
+use crate::runs::{Tells, room, run_all};
 use std::alloc::Global;
 use std::fmt::Write;
-use ws_loops::{Pace, Poller, Readiness, Slot, WaitFailed, add_slot};
+use ws_loops::{Loop, Mark, Pace, Place, Poller, Readiness, Slot, WaitFailed, Wake};
 use ws_machines::Machine;
 
 /// How often is waited at most.
@@ -26,23 +24,19 @@ pub fn run_echoes(alloc: Global, words: &[&str], out: &mut String) -> Result<(),
     };
     let (count, len) = (number_of(count)?, number_of(len)?);
     let (buffer, piece) = (number_of(buffer)?, number_of(piece)?);
-    let mut places = no_places(alloc);
-    'echoes: for _ in 0..count {
-        add_echo(alloc, &mut places, len, buffer, piece)?;
+    let mut all = Loop::new(alloc, count)?;
+    for _ in 0..count {
+        add_echo(alloc, &mut all, len, buffer, piece)?;
     }
     let mut poller = ReadyPoller {
+        places: count,
+        next: 0,
         answered: 0,
         left: WAITS,
     };
     let mut tally = Tally { len, right: 0 };
     let mut room = room(alloc)?;
-    run_all(
-        alloc,
-        &mut poller,
-        places.as_mut_slice(),
-        room.as_mut_slice(),
-        &mut tally,
-    )?;
+    run_all(&mut poller, &mut all, room.as_mut_slice(), &mut tally)?;
     write!(out, "{} right", tally.right)?;
     Ok(())
 }
@@ -58,29 +52,30 @@ pub fn number_of(word: &str) -> Result<usize, RowFault> {
 /// Adds a slot.
 fn add_echo(
     alloc: Global,
-    places: &mut Vec<Option<Slot<NotedExchange, BoundedEcho>>>,
+    all: &mut Loop<NotedExchange, BoundedEcho>,
     len: usize,
     buffer: usize,
     piece: usize,
-) -> Result<(), RowFault>
-    requires { AreAble noted_agrees noted_wants places.old.items }
-    ensures { OnOk result (AreAble noted_agrees noted_wants places.new.items) }
-{
+) -> Result<(), RowFault> {
     let bytes = counted(alloc, len)?;
-    add_slot(
-        places,
-        Slot {
-            machine: NotedExchange::new(alloc, bytes, len),
-            stream: BoundedEcho::new(alloc, buffer, piece),
-            pace: Pace::begun(0, None, None),
-        },
-    )?;
+    if let Some(at) = all.free_place() {
+        all.put(
+            at,
+            Slot {
+                machine: NotedExchange::new(alloc, bytes, len),
+                stream: BoundedEcho::new(alloc, buffer, piece),
+                pace: Pace::begun(0, None, None),
+            },
+        );
+    }
     Ok(())
 }
 
-/// It finds each stream ready.
+/// It finds each stream ready, as many as there is room for, and then those behind them.
 #[derive(Drop)]
 struct ReadyPoller {
+    places: usize,
+    next: usize,
     answered: u64,
     left: u64,
 }
@@ -94,19 +89,34 @@ impl Poller for ReadyPoller {
         self.answered
     }
 
-    fn wait(&mut self, ready: &mut [Readiness], _until: Option<u64>) -> Result<(), WaitFailed> {
+    fn wait(&mut self, found: &mut [Wake], _until: Option<u64>) -> Result<usize, WaitFailed> {
         if self.left == 0 {
             return Err(WaitFailed);
         }
         self.left -= 1;
-        for one in ready.iter_mut() {
-            *one = Readiness {
-                read: true,
-                write: true,
-            };
+        for one in found.iter_mut() {
+            *one = ready_at(self.next);
+            self.next = next_of(self.next, self.places);
         }
-        Ok(())
+        Ok(found.len())
     }
+}
+
+/// The stream of this place is found ready.
+fn ready_at(at: usize) -> Wake {
+    Wake {
+        mark: Mark::Place(at),
+        ready: Readiness {
+            read: true,
+            write: true,
+        },
+    }
+}
+
+/// The place behind this one, of so many; behind the last one the first.
+fn next_of(at: usize, places: usize) -> usize {
+    let next = at.saturating_add(1);
+    if next < places { next } else { 0 }
 }
 
 /// How many exchanges got what they have written.
@@ -121,8 +131,11 @@ impl Tells<NotedExchange, BoundedEcho> for Tally {
         &mut self,
         _at: usize,
         _time: u64,
-        slot: Slot<NotedExchange, BoundedEcho>,
+        ended: Place<NotedExchange, BoundedEcho>,
     ) -> Result<(), RowFault> {
+        let Place::Open(slot) = ended else {
+            return Err(RowFault::NoMemory);
+        };
         let Slot { machine, .. } = slot;
         if machine.is_done() {
             let came = machine.into_end()?;

@@ -140,7 +140,7 @@ impl<'a> Network for ListedNetwork<'a> {
         }
     }
 
-    fn bind(&mut self, address: usize, _at: usize) -> Result<ListedListener<'a>, Miss> {
+    fn bind(&mut self, address: usize) -> Result<ListedListener<'a>, Miss> {
         (self.at, self.asked) = (address, 0);
         self.note("bind", address);
         if self.mark() == Some(b'x') {
@@ -162,8 +162,8 @@ impl<'a> Network for ListedNetwork<'a> {
     }
 }
 
-/// Each letter says what it does when it is asked: `c` that a client comes, with the stream of the next word, `f` that
-/// it fails, and `n`, as behind the last letter, that there is no client.
+/// Each letter says what it does when it is asked: `c` that a client comes, with the stream of the next word, `l` that
+/// one is lost, `f` that it fails, and `n`, as behind the last letter, that there is no client.
 #[derive(Drop)]
 pub struct ListedListener<'a> {
     alloc: Global,
@@ -214,6 +214,7 @@ impl Listener for ListedListener<'_> {
         self.asked = self.asked.saturating_add(1);
         match mark {
             Some(b'c') => self.next_client(),
+            Some(b'l') => TryAccept::Lost(Miss::NotAccepted),
             Some(b'f') => TryAccept::Failed(Miss::NotAccepted),
             _ => TryAccept::NotReady,
         }

@@ -1,25 +1,23 @@
 //! A poller that finds streams ready at the times that a list says.
 
-ghost use Rattle.std.specs.Prelude.{◌≡◌, length};
+ghost use Rattle.std.specs.Prelude.{◌≡◌, ◌≤◌, length};
 
 use crate::row_fault::RowFault;
 use std::alloc::Global;
 use std::collections::VecDeque;
-use ws_loops::{Poller, Readiness, WaitFailed};
+use ws_loops::{Mark, Poller, Readiness, WaitFailed, Wake};
 
-/// At this time the stream of a place is found ready.
+/// At this time the stream of a place, or the listener, is found ready.
 #[derive(Clone, Copy)]
-pub struct Wake {
+pub struct TimedWake {
     time: u64,
-    place: usize,
-    read: bool,
-    write: bool,
+    wake: Wake,
 }
 
 /// Its clock goes on by waits alone. How often it has waited is counted, and it waits no more than a thousand times.
 #[derive(Drop)]
 pub struct ListedPoller {
-    wakes: VecDeque<Wake>,
+    wakes: VecDeque<TimedWake>,
     clock: u64,
     answered: u64,
     pub waits: u64,
@@ -28,7 +26,7 @@ pub struct ListedPoller {
 
 impl ListedPoller {
     /// It finds streams ready so, in this order.
-    pub fn new(wakes: VecDeque<Wake>) -> ListedPoller {
+    pub fn new(wakes: VecDeque<TimedWake>) -> ListedPoller {
         ListedPoller {
             wakes,
             clock: 0,
@@ -49,39 +47,31 @@ impl ListedPoller {
     }
 }
 
-/// Marks the streams that are found ready by now.
-fn mark(wakes: &mut VecDeque<Wake>, clock: u64, ready: &mut [Readiness])
-    ensures { length ready.new ≡ length ready.old }
+/// Tells of what is found ready by now, as far as there is room, and answers of how many.
+fn tell(wakes: &mut VecDeque<TimedWake>, clock: u64, found: &mut [Wake]) -> usize
+    ensures len { length found.new ≡ length found.old }
+    ensures count { result ≤ length found.new }
 {
+    let mut count = 0;
     for _ in 0..wakes.len() {
-        if is_ready(wakes, clock) {
-            mark_next(wakes, ready);
+        if count < found.len()
+            && let Some(wake) = next_ready(wakes, clock)
+        {
+            found[count] = wake;
+            count += 1;
         }
     }
+    count
 }
 
-/// Whether the next stream is found ready by now.
-fn is_ready(wakes: &VecDeque<Wake>, clock: u64) -> bool {
+/// What is found ready next, if it is by now.
+fn next_ready(wakes: &mut VecDeque<TimedWake>, clock: u64) -> Option<Wake> {
     match wakes.front() {
-        Some(wake) => wake.time <= clock,
-        None => false,
+        Some(next) if next.time <= clock => {}
+        _ => return None,
     }
-}
-
-/// Marks the next stream.
-fn mark_next(wakes: &mut VecDeque<Wake>, ready: &mut [Readiness])
-    ensures { length ready.new ≡ length ready.old }
-{
-    let Some(wake) = wakes.pop_front() else {
-        return;
-    };
-    if wake.place < ready.len() {
-        let before = ready[wake.place];
-        ready[wake.place] = Readiness {
-            read: before.read || wake.read,
-            write: before.write || wake.write,
-        };
-    }
+    let next = wakes.pop_front()?;
+    Some(next.wake)
 }
 
 impl Poller for ListedPoller {
@@ -94,7 +84,7 @@ impl Poller for ListedPoller {
         self.answered
     }
 
-    fn wait(&mut self, ready: &mut [Readiness], until: Option<u64>) -> Result<(), WaitFailed> {
+    fn wait(&mut self, found: &mut [Wake], until: Option<u64>) -> Result<usize, WaitFailed> {
         if self.left == 0 {
             return Err(WaitFailed);
         }
@@ -104,13 +94,13 @@ impl Poller for ListedPoller {
         self.left -= 1;
         self.waits = self.waits.saturating_add(1);
         self.clock = self.clock.max(time);
-        mark(&mut self.wakes, self.clock, ready);
-        Ok(())
+        Ok(tell(&mut self.wakes, self.clock, found))
     }
 }
 
-/// The list of words, parted by commas: `TIME:PLACE:r`, `TIME:PLACE:w` or `TIME:PLACE:rw`; `-` has none.
-pub fn wakes_by(alloc: Global, words: &str) -> Result<VecDeque<Wake>, RowFault> {
+/// The list of words, parted by commas: `TIME:PLACE:r`, `TIME:PLACE:w` or `TIME:PLACE:rw`, with `l` in place of `PLACE`
+/// for the listener; `-` has none.
+pub fn wakes_by(alloc: Global, words: &str) -> Result<VecDeque<TimedWake>, RowFault> {
     let mut wakes = VecDeque::new(alloc);
     if words == "-" {
         return Ok(wakes);
@@ -122,24 +112,39 @@ pub fn wakes_by(alloc: Global, words: &str) -> Result<VecDeque<Wake>, RowFault> 
 }
 
 /// What a word says of a stream that is found ready.
-fn wake_by(alloc: Global, word: &str) -> Result<Wake, RowFault> {
+fn wake_by(alloc: Global, word: &str) -> Result<TimedWake, RowFault> {
     let parts: Vec<&str> = word.split(':').collect(alloc)?;
-    let [time, place, how] = parts.as_slice() else {
+    let [time, mark, how] = parts.as_slice() else {
         return Err(RowFault::NotARow);
     };
-    let (Ok(time), Ok(place)) = (time.parse::<u64>(), place.parse::<usize>()) else {
+    let Ok(time) = time.parse::<u64>() else {
         return Err(RowFault::NotARow);
     };
-    let (read, write) = match *how {
+    let wake = Wake {
+        mark: mark_by(mark)?,
+        ready: ready_by(how)?,
+    };
+    Ok(TimedWake { time, wake })
+}
+
+/// The mark of a word.
+fn mark_by(word: &str) -> Result<Mark, RowFault> {
+    if word == "l" {
+        return Ok(Mark::Listener);
+    }
+    match word.parse::<usize>() {
+        Ok(place) => Ok(Mark::Place(place)),
+        Err(_) => Err(RowFault::NotARow),
+    }
+}
+
+/// How a word says that it is found.
+fn ready_by(word: &str) -> Result<Readiness, RowFault> {
+    let (read, write) = match word {
         "r" => (true, false),
         "w" => (false, true),
         "rw" => (true, true),
         _ => return Err(RowFault::NotARow),
     };
-    Ok(Wake {
-        time,
-        place,
-        read,
-        write,
-    })
+    Ok(Readiness { read, write })
 }

@@ -105,8 +105,6 @@ impl ListedStream {
 impl NonBlocking for ListedStream {
     ghost use Rattle.std.specs.Prelude.{⊤};
 
-    type Fault = RowFault;
-
     ghost did = { λ old new deeds. ⊤ };
 
     fn try_read(&mut self, room: &mut [u8]) -> TryRead {
@@ -144,11 +142,6 @@ impl NonBlocking for ListedStream {
 
     fn end_direction(&mut self) {
         self.note(" direction_ended");
-    }
-
-    fn report(&mut self, _lines: &[u8]) -> Result<(), RowFault> {
-        self.note(" reported");
-        Ok(())
     }
 }
 

@@ -1,18 +1,17 @@
 //! Rows of loops over streams that do what lists say.
 
 ghost use Rattle.std.specs.Prelude.{[], IfOk};
-ghost use Rattle.ws_loops.specs.Rounds.{AreAble};
-ghost use Rattle.test_loops.specs.Noted.{IsAbleNoted, noted_agrees, noted_wants};
+ghost use Rattle.test_loops.specs.Noted.{IsAbleNoted, noted_agrees};
 
 use crate::listed_poller::{ListedPoller, wakes_by};
 use crate::listed_stream::{ListedStream, found_by, given_by};
 use crate::noted_exchange::NotedExchange;
 use crate::row_fault::RowFault;
-use crate::runs::{Tells, no_places, room, run_all};
+use crate::runs::{Tells, room, run_all};
 use std::alloc::Global;
 use std::fmt::Write;
 use ws_formats::{Hex, read_hex};
-use ws_loops::{Pace, Slot, add_slot};
+use ws_loops::{Loop, Pace, Place, Slot};
 use ws_machines::Machine;
 
 /// `loop LIMIT DEADLINE WAKES SLOT ..`: exchanges over streams that do what lists say, with a time limit and a
@@ -24,16 +23,10 @@ pub fn run_lists(alloc: Global, words: &[&str], out: &mut String) -> Result<(), 
     };
     let pace = Pace::begun(0, time_of(limit)?, time_of(deadline)?);
     let mut poller = ListedPoller::new(wakes_by(alloc, wakes)?);
-    let mut places = places_by(alloc, slots, pace)?;
+    let mut all = loop_by(alloc, slots, pace)?;
     let mut lines = Lines { out };
     let mut room = room(alloc)?;
-    run_all(
-        alloc,
-        &mut poller,
-        places.as_mut_slice(),
-        room.as_mut_slice(),
-        &mut lines,
-    )?;
+    run_all(&mut poller, &mut all, room.as_mut_slice(), &mut lines)?;
     write!(lines.out, "waits {}", poller.waits)?;
     Ok(())
 }
@@ -49,28 +42,28 @@ pub fn time_of(word: &str) -> Result<Option<u64>, RowFault> {
     }
 }
 
-/// The slots of these words.
-fn places_by(
+/// A loop with the slots of these words.
+fn loop_by(
     alloc: Global,
     words: &[&str],
     pace: Pace,
-) -> Result<Vec<Option<Slot<NotedExchange, ListedStream>>>, RowFault>
-    ensures { IfOk result (λ places. AreAble noted_agrees noted_wants places.items) }
-{
-    let mut places = no_places(alloc);
+) -> Result<Loop<NotedExchange, ListedStream>, RowFault> {
+    let mut all = Loop::new(alloc, words.len())?;
     for word in words {
         let machine = machine_by(alloc, word)?;
         let stream = stream_by(alloc, word)?;
-        add_slot(
-            &mut places,
-            Slot {
-                machine,
-                stream,
-                pace,
-            },
-        )?;
+        if let Some(at) = all.free_place() {
+            all.put(
+                at,
+                Slot {
+                    machine,
+                    stream,
+                    pace,
+                },
+            );
+        }
     }
-    Ok(places)
+    Ok(all)
 }
 
 /// The exchange of a word `BYTES/MOST/READS/WRITES`.
@@ -108,6 +101,23 @@ pub struct Lines<'a> {
 
 impl Tells<NotedExchange, ListedStream> for Lines<'_> {
     fn tell(
+        &mut self,
+        at: usize,
+        time: u64,
+        ended: Place<NotedExchange, ListedStream>,
+    ) -> Result<(), RowFault> {
+        match ended {
+            Place::Open(slot) => self.tell_slot(at, time, slot)?,
+            Place::Broken => write!(self.out, "{at} at {time}: no memory; ")?,
+            Place::Empty => return Err(RowFault::NotARow),
+        }
+        Ok(())
+    }
+}
+
+impl Lines<'_> {
+    /// What came of a slot.
+    fn tell_slot(
         &mut self,
         at: usize,
         time: u64,

@@ -10,6 +10,7 @@ mod chance;
 mod chances;
 mod counted;
 mod echoes;
+mod idles;
 mod listed_network;
 mod listed_poller;
 mod listed_stream;
@@ -57,7 +58,9 @@ fn answer_to<N: Net + Clock>(alloc: Global, net: &N, row: &str) -> Result<String
     match *call {
         "loop" => lists::run_lists(alloc, words, &mut out)?,
         "chances" => chances::run_chances(alloc, words, &mut out)?,
+        "scarce" => chances::run_scarce(alloc, words, &mut out)?,
         "echo" => echoes::run_echoes(alloc, words, &mut out)?,
+        "idle" => idles::run_idle(alloc, words, &mut out)?,
         "meet" => meetings::run_meeting(alloc, words, &mut out)?,
         "serve" => servings::run_serving(alloc, words, &mut out)?,
         "places" => servings::run_places(alloc, words, &mut out)?,

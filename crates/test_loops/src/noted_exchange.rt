@@ -8,11 +8,12 @@ use std::fmt::Write;
 use ws_base::NoMemory;
 use ws_machines::{Exchange, Machine, StreamEvent};
 
-/// An exchange, and a word for each thing that it was told.
+/// An exchange, a word for each thing that it was told, and for how many more there is memory.
 #[derive(Drop)]
 pub struct NotedExchange {
     pub exchange: Exchange,
     pub told: String,
+    pub memory: u64,
 }
 
 impl NotedExchange {
@@ -21,10 +22,19 @@ impl NotedExchange {
         ensures able { IsAbleNoted result }
         ensures untold { noted_agrees result result [] }
     {
+        NotedExchange::scarce(alloc, bytes, most, u64::MAX)
+    }
+
+    /// The same, with memory for so many things that it is told.
+    pub fn scarce(alloc: Global, bytes: Vec<u8>, most: usize, memory: u64) -> NotedExchange
+        ensures able { IsAbleNoted result }
+        ensures untold { noted_agrees result result [] }
+    {
         let exchange = Exchange::new(alloc, bytes, most);
         NotedExchange {
             exchange,
             told: String::new(alloc),
+            memory,
         }
     }
 
@@ -32,6 +42,10 @@ impl NotedExchange {
     fn note(&mut self, event: StreamEvent<'_>) -> Result<(), NoMemory>
         ensures kept { OnOk result (self.new.exchange ≡ self.old.exchange) }
     {
+        let Some(memory) = self.memory.checked_sub(1) else {
+            return Err(NoMemory);
+        };
+        self.memory = memory;
         put_event(event, &mut self.told)?;
         Ok(())
     }

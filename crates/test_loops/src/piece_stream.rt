@@ -3,7 +3,7 @@
 ghost use Rattle.std.specs.Prelude.{◌≡◌, ◌<◌, length};
 
 use ws_loops::{Listener, NonBlocking, TryAccept, TryRead, TryWrite};
-use wst_network::{ConnectMiss, NetworkFault, SystemListener, SystemStream};
+use wst_network::{ConnectMiss, SystemListener, SystemStream};
 
 /// A stream of the system to which at most so many bytes are written at once, and at least one.
 #[derive(Drop)]
@@ -14,8 +14,6 @@ pub struct PieceStream {
 
 impl NonBlocking for PieceStream {
     ghost use Rattle.std.specs.Prelude.{⊤};
-
-    type Fault = NetworkFault;
 
     ghost did = { λ old new deeds. ⊤ };
 
@@ -30,10 +28,6 @@ impl NonBlocking for PieceStream {
 
     fn end_direction(&mut self) {
         self.stream.end_direction();
-    }
-
-    fn report(&mut self, lines: &[u8]) -> Result<(), NetworkFault> {
-        self.stream.report(lines)
     }
 }
 
@@ -59,6 +53,7 @@ impl Listener for PieceListener {
                 stream,
                 piece: self.piece,
             }),
+            TryAccept::Lost(why) => TryAccept::Lost(why),
             TryAccept::Failed(why) => TryAccept::Failed(why),
             TryAccept::NotReady => TryAccept::NotReady,
         }

@@ -1,8 +1,7 @@
 //! Rows of loops that listen, and of the places of a loop.
 
-ghost use Rattle.std.specs.Prelude.{◌≡◌, ◌<◌, length, OnOk};
-ghost use Rattle.ws_loops.specs.Rounds.{AreAble};
-ghost use Rattle.test_loops.specs.Noted.{noted_agrees, noted_wants};
+ghost use Rattle.std.specs.Prelude.{◌≡◌, ◌<◌, length, Some, slice_get};
+ghost use Rattle.ws_loops.specs.declared.places.Place.TheVariants.{Empty};
 
 use crate::listed_network::{ListedListener, ListedNetwork, Miss};
 use crate::listed_poller::{ListedPoller, wakes_by};
@@ -11,12 +10,10 @@ use crate::lists::{Lines, machine_by, stream_by, time_of};
 use crate::meetings::put_miss;
 use crate::noted_exchange::NotedExchange;
 use crate::row_fault::RowFault;
-use crate::runs::{Tells, no_places, room, run_all};
+use crate::runs::{Tells, room, run_all};
 use std::alloc::Global;
 use std::fmt::Write;
-use ws_loops::{
-    Arrival, Pace, Poller, Slot, empty_places, fill_place, put_slot, run_until_client, take_slot,
-};
+use ws_loops::{Arrival, Loop, NoLines, Pace, Poller, Slot};
 use ws_networks::{Network, Unheard, listen};
 
 /// How often something arrives at most.
@@ -36,7 +33,7 @@ pub fn run_serving(alloc: Global, words: &[&str], out: &mut String) -> Result<()
     let until = time_of(until)?;
     let mut network = ListedNetwork::new(alloc, binds, "", accepts, slots)?;
     let mut poller = ListedPoller::new(wakes_by(alloc, wakes)?);
-    let listened = listen(alloc, &mut network, "name", places);
+    let listened = listen(alloc, &mut network, "name");
     if let Ok(listener) = &listened {
         let _ = network.address_of(listener);
     }
@@ -69,72 +66,60 @@ fn serve_all(
     until: Option<u64>,
     out: &mut String,
 ) -> Result<(), RowFault> {
-    let mut all = empty_places(alloc, len)?;
+    let mut all = Loop::new(alloc, len)?;
     let mut room = room(alloc)?;
-    let mut lines = Lines { out };
-    serve_places(
-        alloc,
-        poller,
-        listener,
-        all.as_mut_slice(),
-        until,
-        room.as_mut_slice(),
-        &mut lines,
-    )?;
-    Ok(())
-}
-
-/// Serves clients in these places.
-fn serve_places(
-    alloc: Global,
-    poller: &mut ListedPoller,
-    listener: ListedListener<'_>,
-    places: &mut [Option<Slot<NotedExchange, ListedStream>>],
-    until: Option<u64>,
-    room: &mut [u8],
-    lines: &mut Lines<'_>,
-) -> Result<(), RowFault>
-    requires able { AreAble noted_agrees noted_wants places.old }
-    requires room { 0 < length room.old }
-{
     let mut listener = listener;
+    let mut lines = Lines { out };
+    let room = room.as_mut_slice();
     let mut goes_on = true;
     let mut left = ARRIVALS;
     'arrivals: while goes_on && left > 0 {
         left -= 1;
-        goes_on = serve_next(alloc, poller, &mut listener, places, until, room, lines)?;
+        goes_on = serve_next(
+            alloc,
+            poller,
+            &mut listener,
+            &mut all,
+            until,
+            room,
+            &mut lines,
+        )?;
     }
-    run_all(alloc, poller, places, room, lines)?;
+    run_all(poller, &mut all, room, &mut lines)?;
     Ok(())
 }
 
-/// Runs the slots until something arrives, and does what is to be done then. False where no client is to come any more,
-/// or none has come in time.
+/// Runs the slots until something arrives, and does what is to be done then. While no place is empty none is too late.
+/// False where no client is to come any more, or none has come in time.
 fn serve_next(
     alloc: Global,
     poller: &mut ListedPoller,
     listener: &mut ListedListener<'_>,
-    places: &mut [Option<Slot<NotedExchange, ListedStream>>],
+    all: &mut Loop<NotedExchange, ListedStream>,
     until: Option<u64>,
     room: &mut [u8],
     lines: &mut Lines<'_>,
 ) -> Result<bool, RowFault>
-    requires able { AreAble noted_agrees noted_wants places.old }
     requires room { 0 < length room.old }
-    ensures able { OnOk result (AreAble noted_agrees noted_wants places.new) }
     ensures len { length room.new ≡ length room.old }
 {
     if !listener.has_clients() {
         return Ok(false);
     }
-    let arrival = run_until_client(alloc, poller, listener, places, until, room)?;
+    let until = if all.free_place().is_some() {
+        until
+    } else {
+        None
+    };
+    let arrival = all.run_listening(poller, &mut NoLines, listener, until, room)?;
     let now = poller.now();
     match arrival {
-        Arrival::Done(at) => tell_done(places, at, now, lines)?,
+        Arrival::Ended(at) => tell_ended(all, at, now, lines)?,
         Arrival::Client(at, stream) => {
             write!(lines.out, "client {at} at {now}; ")?;
-            seat(alloc, places, at, now, listener.word(), stream)?;
+            seat(alloc, all, at, now, listener.word(), stream)?;
         }
+        Arrival::Lost(_) => write!(lines.out, "lost at {now}; ")?,
         Arrival::NotAccepted(_) => write!(lines.out, "failed at {now}; ")?,
         Arrival::TooLate => {
             write!(lines.out, "late at {now}; ")?;
@@ -144,47 +129,38 @@ fn serve_next(
     Ok(true)
 }
 
-/// Tells of the slot in this place, which is done.
-fn tell_done(
-    places: &mut [Option<Slot<NotedExchange, ListedStream>>],
+/// Tells of what stood in this place, which has ended.
+fn tell_ended(
+    all: &mut Loop<NotedExchange, ListedStream>,
     at: usize,
     now: u64,
     lines: &mut Lines<'_>,
-) -> Result<(), RowFault>
-    requires able { AreAble noted_agrees noted_wants places.old }
-    ensures able { OnOk result (AreAble noted_agrees noted_wants places.new) }
-{
-    if at >= places.len() {
+) -> Result<(), RowFault> {
+    if at >= all.len() {
         return Err(RowFault::NotARow);
     }
-    if let Some(slot) = take_slot(places, at) {
-        lines.tell(at, now, slot)?;
-    }
+    let ended = all.take(at);
+    lines.tell(at, now, ended)?;
     Ok(())
 }
 
 /// Puts a client into its place, with the exchange of its word.
 fn seat(
     alloc: Global,
-    places: &mut [Option<Slot<NotedExchange, ListedStream>>],
+    all: &mut Loop<NotedExchange, ListedStream>,
     at: usize,
     now: u64,
     word: Option<&str>,
     stream: ListedStream,
 ) -> Result<(), RowFault>
-    requires able { AreAble noted_agrees noted_wants places.old }
-    ensures able { OnOk result (AreAble noted_agrees noted_wants places.new) }
+    requires empty { slice_get all.old.places at ≡ Some Empty }
 {
     let Some(word) = word else {
         return Err(RowFault::NotARow);
     };
-    if at >= places.len() {
-        return Err(RowFault::NotARow);
-    }
     let machine = machine_by(alloc, word)?;
     let pace = Pace::begun(now, None, None);
-    fill_place(
-        places,
+    all.put(
         at,
         Slot {
             machine,
@@ -195,71 +171,74 @@ fn seat(
     Ok(())
 }
 
-/// `places WORD ..`: `+` puts a slot, of which the place is told, and a number takes the slot of that place.
+/// `places LEN WORD ..`: so many places; `+` puts a slot, of which the place is told, or `full`, and a number takes the
+/// slot of that place.
 pub fn run_places(alloc: Global, words: &[&str], out: &mut String) -> Result<(), RowFault> {
-    let mut places = no_places(alloc);
-    'words: for word in words {
-        one_word(alloc, &mut places, word, out)?;
+    let [len, words @ ..] = words else {
+        return Err(RowFault::NotARow);
+    };
+    let Ok(len) = len.parse::<usize>() else {
+        return Err(RowFault::NotARow);
+    };
+    let mut all = Loop::new(alloc, len)?;
+    for word in words {
+        one_word(alloc, &mut all, word, out)?;
     }
-    write!(out, "of {}", places.len())?;
+    write!(out, "of {}", all.len())?;
     Ok(())
 }
 
 /// Puts a slot, or takes one, as a word says.
 fn one_word(
     alloc: Global,
-    places: &mut Vec<Option<Slot<NotedExchange, ListedStream>>>,
+    all: &mut Loop<NotedExchange, ListedStream>,
     word: &str,
     out: &mut String,
-) -> Result<(), RowFault>
-    requires { AreAble noted_agrees noted_wants places.old.items }
-    ensures { OnOk result (AreAble noted_agrees noted_wants places.new.items) }
-{
-    if word == "+" {
-        let at = put_one(alloc, places)?;
-        write!(out, "{at} ")?;
+) -> Result<(), RowFault> {
+    if word != "+" {
+        take_one(all, word)?;
         return Ok(());
     }
-    take_one(places, word)?;
+    match all.free_place() {
+        Some(at) => {
+            write!(out, "{at} ")?;
+            put_one(alloc, all, at)?;
+        }
+        None => write!(out, "full ")?,
+    }
     Ok(())
 }
 
 /// Puts an exchange that does nothing.
 fn put_one(
     alloc: Global,
-    places: &mut Vec<Option<Slot<NotedExchange, ListedStream>>>,
-) -> Result<usize, RowFault>
-    requires { AreAble noted_agrees noted_wants places.old.items }
-    ensures { OnOk result (AreAble noted_agrees noted_wants places.new.items) }
+    all: &mut Loop<NotedExchange, ListedStream>,
+    at: usize,
+) -> Result<(), RowFault>
+    requires empty { slice_get all.old.places at ≡ Some Empty }
 {
     let machine = machine_by(alloc, "-/0/-/-")?;
     let stream = stream_by(alloc, "-/0/-/-")?;
     let pace = Pace::begun(0, None, None);
-    let at = put_slot(
-        places,
+    all.put(
+        at,
         Slot {
             machine,
             stream,
             pace,
         },
-    )?;
-    Ok(at)
+    );
+    Ok(())
 }
 
 /// Takes the slot of the place that this number names.
-fn take_one(
-    places: &mut Vec<Option<Slot<NotedExchange, ListedStream>>>,
-    word: &str,
-) -> Result<(), RowFault>
-    requires { AreAble noted_agrees noted_wants places.old.items }
-    ensures { OnOk result (AreAble noted_agrees noted_wants places.new.items) }
-{
+fn take_one(all: &mut Loop<NotedExchange, ListedStream>, word: &str) -> Result<(), RowFault> {
     let Ok(at) = word.parse::<usize>() else {
         return Err(RowFault::NotARow);
     };
-    if at >= places.len() {
+    if at >= all.len() {
         return Err(RowFault::NotARow);
     }
-    let _ = take_slot(places.as_mut_slice(), at);
+    let _ = all.take(at);
     Ok(())
 }

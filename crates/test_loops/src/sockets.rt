@@ -11,9 +11,7 @@ use std::net::Net;
 use std::time::Clock;
 use ws_loops::Poller;
 use ws_networks::{Limits, Met, Missed, run_at};
-use wst_network::{
-    ConnectMiss, EndingStream, NetworkFault, StreamEnd, SystemStream, system_network,
-};
+use wst_network::{ConnectMiss, EndingStream, StreamEnd, SystemStream, system_network};
 
 /// `socket ADDRESS LIMIT DEADLINE LEN MOST`: an exchange that writes so many bytes to an address, and reads at most so
 /// many. Why there is no connection, or how many bytes came, whether they are a front of those that were written, and
@@ -75,14 +73,4 @@ fn put_met(met: Met<Vec<u8>, SystemStream, ConnectMiss>, out: &mut String) -> Re
         }
     }
     Ok(())
-}
-
-impl From<NetworkFault> for RowFault {
-    fn from(fault: NetworkFault) -> RowFault {
-        match fault {
-            NetworkFault::NoMemory => RowFault::NoMemory,
-            NetworkFault::WaitFailed => RowFault::Stuck,
-            NetworkFault::NoOutput => RowFault::NotARow,
-        }
-    }
 }

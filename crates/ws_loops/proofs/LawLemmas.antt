@@ -1,11 +1,13 @@
 -- What is told by the clock was asked by that time, and what is written was read before.
 use Rattle.std.proofs.Common.{◌≡◌, ℕ, ◌⊎◌, ◌&&◌, ◌||◌, not, Bool, true, false, nat_eq, nat_lt, List, Option, Some}
-use Rattle.std.proofs.Common.{◌+◌, ◌-◌, ◌<◌, if◌then◌else◌, nat_le, None, is_some, refl, sym, ap, subst, inl, inr, arith}
+use Rattle.std.proofs.Common.{◌+◌, ◌-◌, ◌<◌, if◌then◌else◌, nat_le, None, is_some, refl, sym, ap, subst, inl, inr}
+use Rattle.std.proofs.Common.{arith}
 use Rattle.std.proofs.lemmas.Bool.{eqb-true, leb-false, leb-true, ltb-false}
 use Rattle.ws_machines.specs.Machines.{Wants}
 use Rattle.ws_machines.specs.Told.Told.{NothingCame, Taken, WriteFailed}
 use Rattle.ws_loops.specs.Deeds.Deed.{Did, Passed}
-use Rattle.ws_loops.specs.Paces.{IsBefore, due_time, has_any_bytes, has_ended_by, has_passed, is_at, is_due, is_read_due}
+use Rattle.ws_loops.specs.Paces.{IsBefore, due_time, has_any_bytes, has_ended_by, has_passed, is_at, is_due}
+use Rattle.ws_loops.specs.Paces.{is_read_due}
 use Rattle.ws_loops.specs.Paces.{is_wait_late, is_write_due, is_write_late, limit_at, passes_at, sooner}
 use Rattle.ws_loops.specs.Slots.{IsNextDeed}
 use Rattle.ws_loops.specs.declared.pace.Pace.{Pace}
@@ -175,7 +177,8 @@ not_due_before wants p now t undone rests before =
     let any = has_any_bytes wants.write in
     let room = nat_lt 0 wants.room in
     let soon : IsBefore t (sooner p.deadline (limit_at wants p)) = subst (λ (o : Option ℕ). IsBefore t o)
-    (chosen_last wants.done (is_due wants p now) (Some now) (sooner p.deadline (limit_at wants p)) undone rests) before in
+    (chosen_last wants.done (is_due wants p now) (Some now) (sooner p.deadline
+    (limit_at wants p)) undone rests) before in
     let limit = before_other p.deadline (limit_at wants p) t soon in
     let all = goes_on_so wants.done (has_any_bytes wants.report || (wants.end || (has_ended_by p.deadline now
     || (is_read_due wants p now || (is_write_due wants p now || (is_write_late wants p now

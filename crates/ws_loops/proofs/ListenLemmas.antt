@@ -1,8 +1,19 @@
--- What a listener did: it was asked some times, and then some times more.
-use Rattle.std.proofs.Common.{◌≡◌, ◌∙◌, ◌+◌, List, [], ◌++◌, ap, append_assoc, append-nil, replicate, subst, sym}
+-- What a listener did: it was asked some times, and then some times more; and what came of it where it was asked once.
+use Rattle.std.proofs.Common.{◌≡◌, ◌∙◌, ◌+◌, ℕ, List, [], ◌∷◌, ◌++◌, Bool, true, false, length, MatchOption, Option}
+use Rattle.std.proofs.Common.{None, Some, ap, append_assoc}
+use Rattle.std.proofs.Common.{◌⊎◌, append-nil, inl, inr, replicate, subst, sym}
+use Rattle.std.specs.List.{slice_get}
 use Rattle.std.proofs.lemmas.List.{replicate-append-replicate}
-use Rattle.ws_loops.specs.Listeners.{AcceptDeed, HasHeardLast}
-use Rattle.ws_loops.specs.Listeners.AcceptDeed.{HadNoClient}
+use Rattle.ws_machines.specs.Machines.{Wants}
+use Rattle.ws_loops.specs.Deeds.{Deed}
+use Rattle.ws_loops.specs.Listeners.{AcceptDeed, CannotTake, HasAskedClient, HasClientBy, HasHeard, HasHeardFor}
+use Rattle.ws_loops.specs.Listeners.{HasHeardLast, IsPlaceToAsk}
+use Rattle.ws_loops.specs.Listeners.AcceptDeed.{CouldNotGive, GaveClient, HadNoClient, LostClient}
+use Rattle.ws_loops.specs.Looping.{LoopValue}
+use Rattle.ws_loops.specs.Places.{AreOccupied, IsFirstFree}
+use Rattle.ws_loops.specs.declared.listening.Arrival.{Arrival}
+use Rattle.ws_loops.specs.declared.listening.Arrival.TheVariants as arrival
+use Rattle.ws_loops.specs.declared.places.Place.TheVariants.{Empty}
 
 module _ {L W : Type 0} (did : L → L → List (AcceptDeed W) → Type 0) where
   pub heard_nothing : (a : L) → HasHeardLast did a a []
@@ -28,3 +39,60 @@ module _ {L W : Type 0} (did : L → L → List (AcceptDeed W) → Type 0) where
           (append-nil (replicate n HadNoClient))
           ∙ (sym (append_assoc (replicate n HadNoClient) (replicate m HadNoClient) last)
           ∙ ap (λ (l : List (AcceptDeed W)). l ++ last) (replicate-append-replicate n m HadNoClient)))
+
+-- what came of it where it was asked once, for a place that is free
+pub asked_so : {M S L W : Type 0} (wants : M → Wants) (does : S → S → List Deed → Type 0)
+    (did : L → L → List (AcceptDeed W) → Type 0) (at : ℕ) (over : Bool) (old new : L) (l : LoopValue M S)
+    (before after : Bool) (result : Option (Arrival S W)) → IsFirstFree l.places at → slice_get l.places at ≡ Some Empty
+    → before ≡ false → HasAskedClient does did at old new before result after
+    → HasClientBy wants does did over old new l before result after
+asked_so wants does did at over old new l before after None free is hears (heard, same) = (
+  (1, heard),
+  same,
+  λ so. inr (0, heard),
+)
+asked_so wants does did at over old new l before after (Some (arrival.Ended place)) free is hears h = absurd h
+asked_so wants does did at over old new l before after (Some arrival.TooLate) free is hears h = absurd h
+asked_so wants does did at over old new l before after (Some (arrival.Lost why)) free is hears (heard, same) = (
+  (0, heard),
+  (hears, same ∙ hears),
+  λ until now. tt,
+)
+asked_so wants does did at over old new l before after (Some (arrival.NotAccepted why)) free is hears (heard, same) = (
+  (0, heard),
+  (hears, same),
+  λ until now. tt,
+)
+asked_so {M} {S} {L} {W} wants does did at over old new l before after (Some
+    (arrival.Client place stream)) free is hears
+    (heard, here, fresh, same) = (
+      (0, subst (λ (n : ℕ). HasHeard did old new (GaveClient n ∷ [])) (sym here) heard),
+      (hears, same ∙ hears),
+      λ until now. (
+        subst (λ (n : ℕ). IsFirstFree l.places n) (sym here) free,
+        subst (λ (n : ℕ). slice_get l.places n ≡ Some Empty) (sym here) is,
+        fresh,
+      ),
+    )
+
+-- the place for which one is asked for, or none is empty
+pub place_so : {M S : Type 0} (l : LoopValue M S) (result : Option ℕ) (over : Bool)
+    → MatchOption result (AreOccupied l.places (length l.places))
+    (λ at. IsFirstFree l.places at × (slice_get l.places at ≡ Some Empty)) → l.deaf ≡ false
+    → MatchOption result (over ≡ true → CannotTake l) (λ at. IsPlaceToAsk l at)
+place_so l None over h hears = λ so. inl h
+place_so l (Some at) over (free, is) hears = (free, is, hears)
+
+-- it was asked some times in vain, and then so
+pub heard_for : {M S T L W : Type 0} (did : L → L → List (AcceptDeed W) → Type 0) (a b c : L) (l : LoopValue M S)
+    (happened : Arrival T W) → HasHeardLast did a b [] → HasHeardFor did b c l happened
+    → HasHeardFor did a c l happened
+heard_for did a b c l (arrival.Ended at) h k = heard_then did a b c [] h k
+heard_for did a b c l (arrival.Client at stream) h k = heard_then did a b c (GaveClient at ∷ []) h k
+heard_for did a b c l (arrival.Lost why) h k = heard_then did a b c (LostClient why ∷ []) h k
+heard_for did a b c l (arrival.NotAccepted why) h k = heard_then did a b c (CouldNotGive why ∷ []) h k
+heard_for did a b c l arrival.TooLate h (asked, why) = (heard_then did a b c [] h asked, by why)
+  where
+    by : CannotTake l ⊎ HasHeardLast did b c (HadNoClient ∷ []) → CannotTake l ⊎ HasHeardLast did a c (HadNoClient ∷ [])
+    by (inl none) = inl none
+    by (inr k) = inr (heard_then did a b c (HadNoClient ∷ []) h k)

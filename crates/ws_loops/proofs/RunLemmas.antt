@@ -4,7 +4,8 @@ use Rattle.std.proofs.Common.{arith, append_assoc, append-nil, inl, inr}
 use Rattle.std.proofs.lemmas.Grind.{flat_map-append}
 use Rattle.ws_machines.specs.Told.{Told}
 use Rattle.ws_machines.specs.Machines.{Extends, Wants}
-use Rattle.ws_loops.specs.Deeds.{Deed, Happened, HasDone, all_done, all_moved, all_told, done_by, moved_by, told_by}
+use Rattle.ws_loops.specs.Deeds.{Deed, Happened, HasDone, all_done, all_moved, all_shown, all_told, done_by, moved_by}
+use Rattle.ws_loops.specs.Deeds.{shown_by, told_by}
 use Rattle.ws_loops.specs.Deeds.Deed.{Woken}
 use Rattle.ws_loops.specs.Paces.{is_due, woken_pace}
 use Rattle.ws_loops.specs.Slots.{AreSteps, HasRunBy, HasServedShare, HasTurn, IsStep, share_len}
@@ -21,6 +22,10 @@ moved_then (x ∷ one) other = ap (λ (n : ℕ). moved_by x.deed + n) (moved_the
     sum_so : (a b c : ℕ) → a + (b + c) ≡ (a + b) + c
     sum_so a b c = omega arith
 
+-- and lines that were taken
+pub shown_then : (one other : List Happened) → all_shown (one ++ other) ≡ all_shown one ++ all_shown other
+shown_then one other = flat_map-append (λ (e : Happened). shown_by e.deed) one other
+
 module _ {M S : Type 0} (agrees : M → M → List Told → Type 0) (wants : M → Wants) (did : S → S → List Deed → Type 0)
   where
     -- nothing has happened
@@ -35,7 +40,8 @@ module _ {M S : Type 0} (agrees : M → M → List Told → Type 0) (wants : M �
     pub one_happened : (now : ℕ) (old new : Slot M S) (deed : Deed) → IsStep agrees wants did old now deed new
         → HasRunBy agrees wants did now old (record { at = now; deed = deed } ∷ []) now new
     one_happened now old new deed h = record {
-      told = subst (λ (l : List Told). Extends agrees old.machine new.machine l) (sym (append-nil (told_by deed))) h.told;
+      told = subst (λ (l : List Told). Extends agrees old.machine new.machine l) (sym (append-nil
+          (told_by deed))) h.told;
       done = subst (λ (l : List Deed). HasDone did old.stream new.stream l) (sym (append-nil (done_by deed))) h.done;
       steps = (omega arith, (new, h, (omega arith, refl)));
     }
@@ -84,27 +90,32 @@ module _ {M S : Type 0} (agrees : M → M → List Told → Type 0) (wants : M �
       steps = longer_steps from to last x z happened k (wider_steps from mid to x z happened h run.steps);
     }
 
-    -- what happened in a turn, and so much of its share is left
-    abbrev pub SoFar : ℕ → Slot M S → Slot M S → ℕ → Type 0
-    SoFar now first x share = (happened : List Happened) × HasRunBy agrees wants did now first happened now x
-        × (all_moved happened + share ≡ share_len)
+    -- what happened in a turn, so much of its share is left, and its lines are these
+    abbrev pub SoFar : ℕ → Slot M S → Slot M S → ℕ → List (List ℕ) → Type 0
+    SoFar now first x share lines = (happened : List Happened) × HasRunBy agrees wants did now first happened now x
+        × (all_moved happened + share ≡ share_len) × (all_shown happened ≡ lines)
 
-    pub one_more : (now : ℕ) (first old new : Slot M S) (share moved : ℕ) (deed : Deed) → SoFar now first old share
-        → IsStep agrees wants did old now deed new → moved_by deed ≡ moved → moved ≤ share
-        → SoFar now first new (share - moved)
-    one_more now first old new share moved deed (happened, run, sum) step m le =
+    pub one_more : (now : ℕ) (first old new : Slot M S) (share moved : ℕ) (lines more : List (List ℕ)) (deed : Deed)
+        → SoFar now first old share lines → IsStep agrees wants did old now deed new → moved_by deed ≡ moved
+        → shown_by deed ≡ more → moved ≤ share → SoFar now first new (share - moved) (lines ++ more)
+    one_more now first old new share moved lines more deed (happened, run, sum, said) step m s le =
         let x : Happened = record { at = now; deed = deed } in (
           happened ++ x ∷ [],
           then_happened now now now first old new happened (x ∷ []) run
               (one_happened now old new deed step),
           omega (arith, moved_then happened (x ∷ []), sum, m, le),
+          shown_then happened (x ∷ [])
+              ∙ (ap (λ (l : List (List ℕ)). l ++ (shown_by deed ++ [])) said
+              ∙ ap (λ (l : List (List ℕ)). lines ++ l) (append-nil (shown_by deed) ∙ s)),
         )
 
-    pub served_so : (now : ℕ) (first x : Slot M S) (share : ℕ) → SoFar now first x share
-        → ((is_due (wants x.machine) x.pace now ≡ false) ⊎ (share ≡ 0)) → HasServedShare agrees wants did now first x
-    served_so now first x share (happened, run, sum) ends = record {
+    pub served_so : (now : ℕ) (first x : Slot M S) (share : ℕ) (lines : List (List ℕ)) → SoFar now first x share lines
+        → ((is_due (wants x.machine) x.pace now ≡ false) ⊎ (share ≡ 0))
+        → HasServedShare agrees wants did now first x lines
+    served_so now first x share lines (happened, run, sum, said) ends = record {
       happened = happened;
       run = run;
+      shown = said;
       share = omega (arith, sum);
       served = how ends;
     }
@@ -115,11 +126,12 @@ module _ {M S : Type 0} (agrees : M → M → List Told → Type 0) (wants : M �
         how (inr none) = inr (omega (arith, sum, none))
 
     -- it was woken, and then served
-    pub woken_so : (now : ℕ) (old : Slot M S) (p : Pace) (new : Slot M S) (ready : Readiness)
+    pub woken_so : (now : ℕ) (old : Slot M S) (p : Pace) (new : Slot M S) (ready : Readiness) (lines : List (List ℕ))
         → p ≡ woken_pace ready.read ready.write old.pace
         → HasServedShare agrees wants did now (record { machine = old.machine; stream = old.stream; pace = p }) new
-        → HasTurn agrees wants did ready now old new
-    woken_so now old p new ready e h =
+        lines
+        → HasTurn agrees wants did ready now old new lines
+    woken_so now old p new ready lines e h =
         let x : Happened = record { at = now; deed = Woken ready.read ready.write } in
         let mid : Slot M S = record { machine = old.machine; stream = old.stream; pace = p } in
         let step : IsStep agrees wants did old now (Woken ready.read ready.write) mid = record {
@@ -132,6 +144,7 @@ module _ {M S : Type 0} (agrees : M → M → List Told → Type 0) (wants : M �
           happened = h.happened;
           run = then_happened now now now old mid new (x ∷ []) h.happened
               (one_happened now old mid (Woken ready.read ready.write) step) h.run;
+          shown = h.shown;
           share = h.share;
           served = h.served;
         }

@@ -6,17 +6,17 @@ use Rattle.std.proofs.lemmas.List.{length-take}
 use Rattle.std.proofs.lemmas.Option.{none-some, same_Some}
 use Rattle.std.proofs.lemmas.Bool.{eq-eqb}
 use Rattle.ws_machines.specs.Told.{Told}
-use Rattle.ws_machines.specs.Told.Told.{Taken, WriteFailed}
+use Rattle.ws_machines.specs.Told.Told.{Reported, Taken, WriteFailed}
 use Rattle.ws_machines.specs.Machines.{Extends, Wants, told_at}
 use Rattle.ws_machines.specs.declared.stream.StreamEvent.{StreamEvent}
 use Rattle.ws_machines.specs.declared.stream.StreamEvent.TheVariants as event
-use Rattle.ws_loops.specs.Deeds.{Deed, FitsTryWrite, HasDone, done_by, moved_by, read_deed, told_by, write_deed}
-use Rattle.ws_loops.specs.Deeds.{try_write_event}
+use Rattle.ws_loops.specs.Deeds.{Deed, FitsTryWrite, HasDone, done_by, moved_by, read_deed, shown_by, told_by}
+use Rattle.ws_loops.specs.Deeds.{try_write_event, write_deed}
 use Rattle.ws_loops.specs.declared.non_blocking.TryRead.{TryRead}
 use Rattle.ws_loops.specs.declared.non_blocking.TryRead.TheVariants as read
 use Rattle.ws_loops.specs.declared.non_blocking.TryWrite.{TryWrite}
 use Rattle.ws_loops.specs.declared.non_blocking.TryWrite.TheVariants as write
-use Rattle.ws_loops.specs.Deeds.Deed.{Did, HadNone, Passed, TookNone}
+use Rattle.ws_loops.specs.Deeds.Deed.{Did, HadNone, Passed, Showed, TookNone}
 use Rattle.ws_loops.specs.Paces.{full_pace, has_any_bytes, idle_pace, is_at, is_due, has_ended_by, is_read_due}
 use Rattle.ws_loops.specs.Paces.{is_wait_late, is_write_due, is_write_late, pace_after}
 use Rattle.ws_loops.specs.Slots.{HasStepped, HasToldOne, IsAble, IsFree, IsNextDeed, in_vain, slot_left}
@@ -113,7 +113,7 @@ module _ {M S : Type 0} (agrees : M → M → List Told → Type 0) (wants : M �
       → deed ≡ Did said → moved_by deed ≡ moved
       → HasToldOne agrees wants left now said (record { machine = old.machine; stream = t; pace = old.pace }) new
       → new.stream ≡ t → HasDone did old.stream t (deed ∷ []) → IsNextDeed (wants old.machine) old.pace now deed
-      → HasStepped agrees wants did left now old new moved
+      → HasStepped agrees wants did left now old new moved []
   did_so now old t new deed said moved e m h same done next = record {
     deed = deed;
     step = record {
@@ -126,6 +126,29 @@ module _ {M S : Type 0} (agrees : M → M → List Told → Type 0) (wants : M �
       order = next;
     };
     moved_by = m;
+    shown = ap shown_by e;
+    able = h.able;
+    nears = falls (in_vain new.pace.idle now) (in_vain new.pace.full now) (in_vain old.pace.idle now)
+        (in_vain old.pace.full now) (left new.machine) (left old.machine) h.nears (in_vain_le new.pace.idle now)
+        (in_vain_le new.pace.full now);
+  }
+
+  -- its lines were taken, and the machine was told so
+  pub showed_so : (now : ℕ) (old new : Slot M S) (lines : List ℕ)
+      → HasToldOne agrees wants left now (Reported lines) old new → new.stream ≡ old.stream
+      → IsNextDeed (wants old.machine) old.pace now (Showed lines)
+      → HasStepped agrees wants did left now old new 0 (lines ∷ [])
+  showed_so now old new lines h same next = record {
+    deed = Showed lines;
+    step = record {
+      told = h.told;
+      done = λ start deeds x. subst (λ (l : List Deed). did start new.stream l) (sym (append-nil deeds))
+          (subst (λ (s : S). did start s deeds) (sym same) x);
+      paced = h.paced;
+      order = next;
+    };
+    moved_by = refl;
+    shown = refl;
     able = h.able;
     nears = falls (in_vain new.pace.idle now) (in_vain new.pace.full now) (in_vain old.pace.idle now)
         (in_vain old.pace.full now) (left new.machine) (left old.machine) h.nears (in_vain_le new.pace.idle now)
@@ -135,7 +158,7 @@ module _ {M S : Type 0} (agrees : M → M → List Told → Type 0) (wants : M �
   -- the clock says this, and the machine was told so
   pub passed_so : (now : ℕ) (old new : Slot M S) (said : Told)
       → HasToldOne agrees wants left now said old new → new.stream ≡ old.stream
-      → IsNextDeed (wants old.machine) old.pace now (Passed said) → HasStepped agrees wants did left now old new 0
+      → IsNextDeed (wants old.machine) old.pace now (Passed said) → HasStepped agrees wants did left now old new 0 []
   passed_so now old new said h same next = record {
     deed = Passed said;
     step = record {
@@ -146,6 +169,7 @@ module _ {M S : Type 0} (agrees : M → M → List Told → Type 0) (wants : M �
       order = next;
     };
     moved_by = refl;
+    shown = refl;
     able = h.able;
     nears = falls (in_vain new.pace.idle now) (in_vain new.pace.full now) (in_vain old.pace.idle now)
         (in_vain old.pace.full now) (left new.machine) (left old.machine) h.nears (in_vain_le new.pace.idle now)
@@ -160,7 +184,7 @@ module _ {M S : Type 0} (agrees : M → M → List Told → Type 0) (wants : M �
       → IsAble agrees wants old.machine → in_vain old.pace.idle now ≡ 1 → HasDone did old.stream t (deed ∷ [])
       → IsNextDeed (wants old.machine) old.pace now deed
       → HasStepped agrees wants did left now old
-      (record { machine = old.machine; stream = t; pace = idle_pace now old.pace }) moved
+      (record { machine = old.machine; stream = t; pace = idle_pace now old.pace }) moved []
   idle_base now old t deed moved e m able was done next = record {
     deed = deed;
     step = record {
@@ -172,6 +196,7 @@ module _ {M S : Type 0} (agrees : M → M → List Told → Type 0) (wants : M �
       order = next;
     };
     moved_by = m;
+    shown = ap shown_by e;
     able = able;
     nears = subst (λ (n : ℕ). left old.machine * 3 + (n + in_vain old.pace.full now) < slot_left left old now)
         (sym (in_vain_now now)) (falls_first (in_vain old.pace.idle now) (in_vain old.pace.full now)
@@ -182,11 +207,11 @@ module _ {M S : Type 0} (agrees : M → M → List Told → Type 0) (wants : M �
       → moved_by deed ≡ moved → IsAble agrees wants old.machine → in_vain old.pace.idle now ≡ 1
       → HasDone did old.stream t (deed ∷ []) → IsNextDeed (wants old.machine) old.pace now deed
       → new ≡ record { machine = old.machine; stream = t; pace = p } → p ≡ idle_pace now old.pace
-      → HasStepped agrees wants did left now old new moved
+      → HasStepped agrees wants did left now old new moved []
   idle_so now old new t p deed moved e m able was done next is paced =
       let all : new ≡ record { machine = old.machine; stream = t; pace = idle_pace now old.pace } =
       is ∙ ap (λ (q : Pace). record { machine = old.machine; stream = t; pace = q }) paced in
-      subst (λ (x : Slot M S). HasStepped agrees wants did left now old x moved) (sym all)
+      subst (λ (x : Slot M S). HasStepped agrees wants did left now old x moved []) (sym all)
       (idle_base now old t deed moved e m able was done next)
 
   -- the stream took no bytes
@@ -194,7 +219,7 @@ module _ {M S : Type 0} (agrees : M → M → List Told → Type 0) (wants : M �
       → IsAble agrees wants old.machine → in_vain old.pace.full now ≡ 1 → HasDone did old.stream t (deed ∷ [])
       → IsNextDeed (wants old.machine) old.pace now deed
       → HasStepped agrees wants did left now old
-      (record { machine = old.machine; stream = t; pace = full_pace now old.pace }) moved
+      (record { machine = old.machine; stream = t; pace = full_pace now old.pace }) moved []
   full_base now old t deed moved e m able was done next = record {
     deed = deed;
     step = record {
@@ -206,6 +231,7 @@ module _ {M S : Type 0} (agrees : M → M → List Told → Type 0) (wants : M �
       order = next;
     };
     moved_by = m;
+    shown = ap shown_by e;
     able = able;
     nears = subst (λ (n : ℕ). left old.machine * 3 + (in_vain old.pace.idle now + n) < slot_left left old now)
         (sym (in_vain_now now)) (falls_second (in_vain old.pace.idle now) (in_vain old.pace.full now)
@@ -216,11 +242,11 @@ module _ {M S : Type 0} (agrees : M → M → List Told → Type 0) (wants : M �
       → moved_by deed ≡ moved → IsAble agrees wants old.machine → in_vain old.pace.full now ≡ 1
       → HasDone did old.stream t (deed ∷ []) → IsNextDeed (wants old.machine) old.pace now deed
       → new ≡ record { machine = old.machine; stream = t; pace = p } → p ≡ full_pace now old.pace
-      → HasStepped agrees wants did left now old new moved
+      → HasStepped agrees wants did left now old new moved []
   full_so now old new t p deed moved e m able was done next is paced =
       let all : new ≡ record { machine = old.machine; stream = t; pace = full_pace now old.pace } =
       is ∙ ap (λ (q : Pace). record { machine = old.machine; stream = t; pace = q }) paced in
-      subst (λ (x : Slot M S). HasStepped agrees wants did left now old x moved) (sym all)
+      subst (λ (x : Slot M S). HasStepped agrees wants did left now old x moved []) (sym all)
       (full_base now old t deed moved e m able was done next)
 
 -- ---- calls

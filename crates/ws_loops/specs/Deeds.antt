@@ -2,7 +2,7 @@
 use Rattle.std.specs.Prelude.{ℕ, ◌+◌, ◌<◌, ◌≤◌, ⊤, Bool, List, [], ◌∷◌, ◌++◌, length, take, Option, Some, None}
 use Rattle.std.specs.List.{flat_map}
 use Rattle.ws_machines.specs.Told.{Told}
-use Rattle.ws_machines.specs.Told.Told.{Came, Ended, ReadFailed, Taken, WriteFailed}
+use Rattle.ws_machines.specs.Told.Told.{Came, Ended, ReadFailed, Reported, Taken, WriteFailed}
 use Rattle.ws_machines.specs.declared.stream.StreamEvent.{StreamEvent}
 use Rattle.ws_machines.specs.declared.stream.StreamEvent.TheVariants as event
 use Rattle.ws_loops.specs.declared.non_blocking.TryRead.{TryRead}
@@ -11,12 +11,13 @@ use Rattle.ws_loops.specs.declared.non_blocking.TryWrite.{TryWrite}
 use Rattle.ws_loops.specs.declared.non_blocking.TryWrite.TheVariants as write
 
 -- One thing that happened: the stream did this. It was asked for bytes and had none; it was given bytes and took none.
--- The clock has passed a limit, of which the machine is told this. The stream was found ready to be read, or to be
--- written.
+-- The lines of the machine were taken. The clock has passed a limit, of which the machine is told this. The stream was
+-- found ready to be read, or to be written.
 pub data Deed : Type 0 where
   Did : Told → Deed
   HadNone : Deed
   TookNone : Deed
+  Showed : List ℕ → Deed
   Passed : Told → Deed
   Woken : Bool → Bool → Deed
 
@@ -25,27 +26,41 @@ pub record Happened : Type 0 where
   pub at : ℕ
   pub deed : Deed
 
--- what the machine is told of it: what the stream did, and what the clock says
+-- what the machine is told of it: what the stream did, that its lines were taken, and what the clock says
 abbrev pub told_by : Deed → List Told
 told_by (Did told) = told ∷ []
 told_by HadNone = []
 told_by TookNone = []
+told_by (Showed lines) = Reported lines ∷ []
 told_by (Passed told) = told ∷ []
 told_by (Woken readable writable) = []
 
--- what the stream did of it: all but what the clock says
+-- what the stream did of it: all but what others did
 abbrev pub done_by : Deed → List Deed
 done_by (Did told) = Did told ∷ []
 done_by HadNone = HadNone ∷ []
 done_by TookNone = TookNone ∷ []
+done_by (Showed lines) = []
 done_by (Passed told) = []
 done_by (Woken readable writable) = []
+
+-- the lines that were taken
+abbrev pub shown_by : Deed → List (List ℕ)
+shown_by (Did told) = []
+shown_by HadNone = []
+shown_by TookNone = []
+shown_by (Showed lines) = lines ∷ []
+shown_by (Passed told) = []
+shown_by (Woken readable writable) = []
 
 abbrev pub all_told : List Happened → List Told
 all_told happened = flat_map (λ x. told_by x.deed) happened
 
 abbrev pub all_done : List Happened → List Deed
 all_done happened = flat_map (λ x. done_by x.deed) happened
+
+abbrev pub all_shown : List Happened → List (List ℕ)
+all_shown happened = flat_map (λ x. shown_by x.deed) happened
 
 -- how many bytes were moved
 abbrev pub told_len : Told → ℕ
@@ -57,6 +72,7 @@ abbrev pub moved_by : Deed → ℕ
 moved_by (Did told) = told_len told
 moved_by HadNone = 0
 moved_by TookNone = 0
+moved_by (Showed lines) = 0
 moved_by (Passed told) = 0
 moved_by (Woken readable writable) = 0
 

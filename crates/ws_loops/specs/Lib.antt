@@ -1,6 +1,10 @@
 pub mod Deeds
+pub mod Sinks
 pub mod Paces
 pub mod Slots
-pub mod Rounds
+pub mod Limits
 pub mod Places
+pub mod Loops
+pub mod Inside
+pub mod Looping
 pub mod Listeners

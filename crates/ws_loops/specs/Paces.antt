@@ -6,7 +6,7 @@ use Rattle.ws_machines.specs.Told.Told.{Came, DeadlinePassed, DirectionEnded, En
 use Rattle.ws_machines.specs.Told.Told.{Taken, WriteFailed}
 use Rattle.ws_machines.specs.Machines.{Wants}
 use Rattle.ws_loops.specs.Deeds.{Deed}
-use Rattle.ws_loops.specs.Deeds.Deed.{Did, HadNone, Passed, TookNone, Woken}
+use Rattle.ws_loops.specs.Deeds.Deed.{Did, HadNone, Passed, Showed, TookNone, Woken}
 use Rattle.ws_loops.specs.declared.pace.Pace.{Pace}
 
 -- so many bytes may be read before what is to be written is tried again
@@ -127,6 +127,7 @@ abbrev pub pace_after : Wants → Wants → ℕ → Deed → Pace → Pace
 pace_after old new now (Did told) p = told_pace (has_any_bytes old.write) new.waits_anew now told p
 pace_after old new now HadNone p = idle_pace now p
 pace_after old new now TookNone p = full_pace now p
+pace_after old new now (Showed lines) p = told_pace (has_any_bytes old.write) new.waits_anew now (Reported lines) p
 pace_after old new now (Passed told) p = told_pace (has_any_bytes old.write) new.waits_anew now told p
 pace_after old new now (Woken readable writable) p = woken_pace readable writable p
 

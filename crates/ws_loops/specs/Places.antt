@@ -1,13 +1,76 @@
--- The places of a loop: which is free, and what is where once a slot was put.
-use Rattle.std.specs.Prelude.{◌≡◌, ℕ, suc, ◌<◌, ◌≤◌, List, ◌∷◌, ◌++◌, length, take, drop, Option, Some, slice_get}
+-- The places of a loop: what stands in them, which is free, and which has ended first.
+use Rattle.std.specs.Prelude.{◌≡◌, ℕ, ◌<◌, ◌≤◌, ⊤, Bool, true, false, if◌then◌else◌, nat_le, List, length, Option}
+use Rattle.std.specs.Prelude.{None, Some, slice_get}
+use Rattle.ws_machines.specs.Machines.{Wants}
+use Rattle.ws_loops.specs.declared.places.Place.{Place}
+use Rattle.ws_loops.specs.declared.places.Place.TheVariants.{Empty, Open, Broken}
+use Rattle.ws_loops.specs.declared.slot.Slot.{Slot}
+
+-- ---- what stands in a place
+
+-- of the slot in it, if there is one, this holds
+abbrev pub IfOpen : {M S : Type 0} → Place M S → (Slot M S → Type 0) → Type 0
+IfOpen Empty P = ⊤
+IfOpen (Open slot) P = P slot
+IfOpen Broken P = ⊤
+
+-- what went on in it has ended: its machine is done, or memory ran out for it
+abbrev pub IsPlaceOver : {M S : Type 0} → (M → Wants) → Place M S → Type 0
+IsPlaceOver wants Empty = ⊥
+IsPlaceOver wants (Open slot) = (wants slot.machine).done ≡ true
+IsPlaceOver wants Broken = ⊤
+
+-- and so at this one
+abbrev pub IsOverAt : {M S : Type 0} → (M → Wants) → List (Place M S) → ℕ → Type 0
+IsOverAt {M} {S} wants places at = (place : Place M S) × (slice_get places at ≡ Some place) × IsPlaceOver wants place
+
+-- nothing stands in any
+abbrev pub AreEmpty : {M S : Type 0} → List (Place M S) → Type 0
+AreEmpty {M} {S} places = (i : ℕ) (place : Place M S) → slice_get places i ≡ Some place → place ≡ Empty
+
+-- ---- which is free
+
+abbrev pub is_empty : {M S : Type 0} → Place M S → Bool
+is_empty Empty = true
+is_empty (Open slot) = false
+is_empty Broken = false
+
+-- something stands in each place in front of this one
+abbrev pub AreOccupied : {M S : Type 0} → List (Place M S) → ℕ → Type 0
+AreOccupied {M} {S} places at = (i : ℕ) (place : Place M S) → i < at → slice_get places i ≡ Some place
+    → is_empty place ≡ false
+
+-- no place is added or lost, and where something stood something stands
+pub record StayTaken {M S : Type 0} (old new : List (Place M S)) : Type 0 where
+  pub len : length new ≡ length old
+  pub each : (i : ℕ) (x y : Place M S) → slice_get old i ≡ Some x → slice_get new i ≡ Some y → is_empty x ≡ false
+      → is_empty y ≡ false
 
 -- This place is the first that is empty, or the one behind all others where none is.
-pub record IsFirstFree {X : Type 0} (places : List (Option X)) (at : ℕ) : Type 0 where
+pub record IsFirstFree {M S : Type 0} (places : List (Place M S)) (at : ℕ) : Type 0 where
   pub within : at ≤ length places
-  pub empty : (x : X) → slice_get places at ≡ Some (Some x) → ⊥
-  pub first : (i : ℕ) → i < at → (x : X) × (slice_get places i ≡ Some (Some x))
+  pub empty : (place : Place M S) → slice_get places at ≡ Some place → place ≡ Empty
+  pub first : AreOccupied places at
 
--- This is in the place that was free first, and all other places are as they were.
-pub record IsPutAt {X : Type 0} (old : List (Option X)) (at : ℕ) (x : X) (new : List (Option X)) : Type 0 where
-  pub free : IsFirstFree old at
-  pub put : new ≡ take at old ++ Some x ∷ drop (suc at) old
+-- ---- which has ended first: each was given a number as it ended
+
+-- no place has ended
+abbrev pub NoneHasEnded : List (Option ℕ) → Type 0
+NoneHasEnded tickets = (i t : ℕ) → slice_get tickets i ≡ Some (Some t) → ⊥
+
+-- this place has ended, and no other one before it
+abbrev pub IsFirstToEnd : List (Option ℕ) → ℕ → Type 0
+IsFirstToEnd tickets at = (t : ℕ) × (slice_get tickets at ≡ Some (Some t))
+    × ((i u : ℕ) → slice_get tickets i ≡ Some (Some u) → t ≤ u)
+
+-- Those that had ended keep their numbers, and those that ended since have later ones.
+pub record KeepTurns (old new : List (Option ℕ)) : Type 0 where
+  pub kept : (i t : ℕ) → slice_get old i ≡ Some (Some t) → slice_get new i ≡ Some (Some t)
+  pub later : (i j t u : ℕ) → slice_get old i ≡ Some (Some t) → slice_get old j ≡ Some None
+      → slice_get new j ≡ Some (Some u) → t ≤ u
+
+-- that of both which ended first, each with its number
+abbrev pub earlier_end : Option (ℕ × ℕ) → ℕ → Option ℕ → Option (ℕ × ℕ)
+earlier_end first at None = first
+earlier_end None at (Some ticket) = Some (at, ticket)
+earlier_end (Some first) at (Some ticket) = if nat_le first.1 ticket then Some first else Some (at, ticket)

@@ -1,16 +1,20 @@
 -- A slot of a loop: a stream and the machine that is told of it, step by step and in a turn.
 use Rattle.std.specs.Prelude.{◌≡◌, ℕ, ◌+◌, ◌*◌, ◌<◌, ◌≤◌, ◌⊎◌, ⊤, true, false, if◌then◌else◌}
-use Rattle.std.specs.Prelude.{List, [], ◌∷◌, Option}
+use Rattle.std.specs.Prelude.{List, [], ◌∷◌, Option, Result, IfErr}
 use Rattle.ws_machines.specs.Told.{Told}
 use Rattle.ws_machines.specs.Told.Told.{Came, DeadlinePassed, DirectionEnded, Ended, NothingCame, ReadFailed, Reported}
 use Rattle.ws_machines.specs.Told.Told.{Taken, WriteFailed}
 use Rattle.ws_machines.specs.Machines.{Extends, HasNext, IsRunning, Wants}
-use Rattle.ws_loops.specs.Deeds.{Deed, Happened, HasDone, all_done, all_moved, all_told, done_by, moved_by, told_by}
-use Rattle.ws_loops.specs.Deeds.Deed.{Did, HadNone, Passed, TookNone, Woken}
+use Rattle.ws_loops.specs.Deeds.{Deed, Happened, HasDone, all_done, all_moved, all_shown, all_told, done_by, moved_by}
+use Rattle.ws_loops.specs.Deeds.{shown_by, told_by}
+use Rattle.ws_loops.specs.Deeds.Deed.{Did, HadNone, Passed, Showed, TookNone, Woken}
 use Rattle.ws_loops.specs.Paces.{has_any_bytes, has_waited, is_at, is_due, has_ended_by, is_read_due, is_wait_late}
 use Rattle.ws_loops.specs.Paces.{is_write_due, is_write_late, pace_after, told_pace}
+use Rattle.ws_loops.specs.Sinks.{HasTakenLines, said_at}
 use Rattle.ws_loops.specs.declared.pace.Pace.{Pace}
 use Rattle.ws_loops.specs.declared.poller.Readiness.{Readiness}
+use Rattle.ws_loops.specs.declared.serving.StepFault.{StepFault}
+use Rattle.ws_loops.specs.declared.serving.StepFault.TheVariants as fault
 use Rattle.ws_loops.specs.declared.slot.Slot.{Slot}
 
 -- ---- what is done next
@@ -29,7 +33,8 @@ IsNextDeed wants p now (Woken readable writable) = ⊤
 IsNextDeed wants p now HadNone = IsFree wants p now × (is_read_due wants p now ≡ true)
 IsNextDeed wants p now TookNone = IsFree wants p now × ((is_read_due wants p now ≡ false)
     × (is_write_due wants p now ≡ true))
-IsNextDeed wants p now (Did (Reported lines)) = wants.done ≡ false
+IsNextDeed wants p now (Showed lines) = (wants.done ≡ false) × (lines ≡ wants.report)
+IsNextDeed wants p now (Did (Reported lines)) = ⊥
 IsNextDeed wants p now (Did DirectionEnded) = (wants.done ≡ false) × (wants.report ≡ [])
 IsNextDeed wants p now (Did (Came bytes)) = IsFree wants p now × (is_read_due wants p now ≡ true)
 IsNextDeed wants p now (Did Ended) = IsFree wants p now × (is_read_due wants p now ≡ true)
@@ -87,20 +92,23 @@ HasRun agrees wants did from to old new = (happened : List Happened)
 abbrev pub share_len : ℕ
 share_len = 65536
 
--- It was served until nothing was due by now, or all of its share was moved.
+-- It was served until nothing was due by now, or all of its share was moved; its lines are these.
 pub record HasServedShare {M S : Type 0} (agrees : M → M → List Told → Type 0) (wants : M → Wants)
-    (did : S → S → List Deed → Type 0) (now : ℕ) (old new : Slot M S) : Type 0 where
+    (did : S → S → List Deed → Type 0) (now : ℕ) (old new : Slot M S) (lines : List (List ℕ)) : Type 0 where
   pub happened : List Happened
   pub run : HasRunBy agrees wants did now old happened now new
+  pub shown : all_shown happened ≡ lines
   pub share : all_moved happened ≤ share_len
   pub served : (is_due (wants new.machine) new.pace now ≡ false) ⊎ (all_moved happened ≡ share_len)
 
--- In a round it was woken as its stream was found, and then served.
+-- In a round it was woken as its stream was found, and then served; its lines are these.
 pub record HasTurn {M S : Type 0} (agrees : M → M → List Told → Type 0) (wants : M → Wants)
-    (did : S → S → List Deed → Type 0) (ready : Readiness) (now : ℕ) (old new : Slot M S) : Type 0 where
+    (did : S → S → List Deed → Type 0) (ready : Readiness) (now : ℕ) (old new : Slot M S) (lines : List (List ℕ))
+    : Type 0 where
   pub happened : List Happened
   pub run : HasRunBy agrees wants did now old
       (record { at = now; deed = Woken ready.read ready.write } ∷ happened) now new
+  pub shown : all_shown happened ≡ lines
   pub share : all_moved happened ≤ share_len
   pub served : (is_due (wants new.machine) new.pace now ≡ false) ⊎ (all_moved happened ≡ share_len)
 
@@ -116,12 +124,15 @@ in_vain time now = if is_at time now then 0 else 1
 abbrev pub slot_left : {M S : Type 0} → (M → ℕ) → Slot M S → ℕ → ℕ
 slot_left left slot now = left slot.machine * 3 + (in_vain slot.pace.idle now + in_vain slot.pace.full now)
 
--- One thing that was due was done, by which so many bytes were moved, and less can happen from then on.
+-- One thing that was due was done, by which so many bytes were moved, and these lines taken, and less can happen from
+-- then on.
 pub record HasStepped {M S : Type 0} (agrees : M → M → List Told → Type 0) (wants : M → Wants)
-    (did : S → S → List Deed → Type 0) (left : M → ℕ) (now : ℕ) (old new : Slot M S) (moved : ℕ) : Type 0 where
+    (did : S → S → List Deed → Type 0) (left : M → ℕ) (now : ℕ) (old new : Slot M S) (moved : ℕ)
+    (lines : List (List ℕ)) : Type 0 where
   pub deed : Deed
   pub step : IsStep agrees wants did old now deed new
   pub moved_by : moved_by deed ≡ moved
+  pub shown : shown_by deed ≡ lines
   pub able : IsAble agrees wants new.machine
   pub nears : slot_left left new now < slot_left left old now
 
@@ -133,3 +144,24 @@ pub record HasToldOne {M S : Type 0} (agrees : M → M → List Told → Type 0)
   pub paced : new.pace ≡ told_pace (has_any_bytes (wants old.machine).write) (wants new.machine).waits_anew now said
       old.pace
   pub nears : left new.machine < left old.machine
+
+-- some lines were taken of it, each with its place
+abbrev pub PutsSome : {K : Type 0} → (K → K → List (ℕ × List ℕ) → Type 0) → ℕ → K → K → (List (List ℕ) → Type 0)
+    → Type 0
+PutsSome heard at old new P = (lines : List (List ℕ)) × HasTakenLines heard old new (said_at at lines) × P lines
+
+-- where its lines were not taken, this holds
+abbrev pub AtNotTaken : {F : Type 0} → Type 0 → StepFault F → Type 0
+AtNotTaken P fault.NoMemory = ⊤
+AtNotTaken P (fault.NotTaken why) = P
+
+abbrev pub IfNotTaken : {A F : Type 0} → Result A (StepFault F) → Type 0 → Type 0
+IfNotTaken result P = IfErr result (AtNotTaken P)
+
+-- where memory ran out for its machine, this holds
+abbrev pub AtNoMemory : {F : Type 0} → Type 0 → StepFault F → Type 0
+AtNoMemory P fault.NoMemory = P
+AtNoMemory P (fault.NotTaken why) = ⊤
+
+abbrev pub IfNoMemory : {A F : Type 0} → Result A (StepFault F) → Type 0 → Type 0
+IfNoMemory result P = IfErr result (AtNoMemory P)

@@ -1,14 +1,12 @@
 //! Streams that don't wait: each call does what can be done at once, or answers that nothing can.
 
-ghost use Rattle.std.specs.Prelude.{◌≡◌, ◌<◌, ◌≤◌, ◌∷◌, [], List, ℕ, length, MatchOption, IfSome, OnOk};
+ghost use Rattle.std.specs.Prelude.{◌≡◌, ◌<◌, ◌≤◌, ◌∷◌, [], List, ℕ, length, MatchOption, IfSome};
 ghost use Rattle.ws_machines.specs.Machines.{Wants, WasWanted, told_at};
-ghost use Rattle.ws_machines.specs.Told.Told.{DirectionEnded, Reported};
+ghost use Rattle.ws_machines.specs.Told.Told.{DirectionEnded};
 ghost use Rattle.ws_loops.specs.Deeds.{FitsTryRead, FitsTryWrite, HasDone, moved_by, read_deed, try_write_event};
 ghost use Rattle.ws_loops.specs.Deeds.{write_deed};
 ghost use Rattle.ws_loops.specs.Deeds.Deed.{Did, HadNone};
 
-use crate::poller::WaitFailed;
-use ws_base::NoMemory;
 use ws_machines::StreamEvent;
 
 /// What came of a read that doesn't wait.
@@ -91,9 +89,6 @@ pub trait NonBlocking {
     ghost use Rattle.std.specs.Prelude.{List};
     ghost use Rattle.ws_loops.specs.Deeds.{Deed};
 
-    /// Why a line can't be reported, memory not be had, or nothing be waited for.
-    type Fault: From<NoMemory> + From<WaitFailed> + Drop;
-
     /// From the first state to the second one it did just this.
     ghost did: { Self → Self → List Deed → Type 0 };
 
@@ -113,8 +108,4 @@ pub trait NonBlocking {
     /// Ends the own direction, while the other one goes on. It counts as ended also where that fails.
     fn end_direction(&mut self)
         ensures { HasDone did self.old self.new (Did DirectionEnded ∷ []) };
-
-    /// Reports these lines.
-    fn report(&mut self, lines: &[u8]) -> Result<(), Self::Fault>
-        ensures { OnOk result (HasDone did self.old self.new (Did (Reported lines.now) ∷ [])) };
 }

@@ -1,38 +1,87 @@
-//! The places of a loop: slots are put into them, and taken out.
+//! What stands in the places of a loop, and what it knows of each.
 
-ghost use Rattle.std.specs.Prelude.{◌≡◌, ◌<◌, ◌++◌, ◌∷◌, [], length, Some, None, IfOk, OnOk, slice_get, slice_set};
-ghost use Rattle.ws_loops.specs.Places.{IsFirstFree, IsPutAt};
-ghost use Rattle.ws_loops.specs.Rounds.{AreAble, AreEmpty};
-ghost use Rattle.ws_loops.specs.Slots.{IsAble};
+ghost use Rattle.std.specs.Prelude.{◌≡◌, ◌<◌, ◌≤◌, length, true, Some, IfSome, MatchOption, slice_get, slice_set};
+ghost use Rattle.ws_loops.specs.Loops.{IsPlaceListed};
+ghost use Rattle.ws_loops.specs.Places.{AreOccupied, IsFirstFree, IsFirstToEnd, NoneHasEnded, earlier_end, is_empty};
 
+use crate::limits::Limits;
+use crate::poller::Readiness;
 use crate::slot::Slot;
-use std::alloc::Global;
-use ws_base::NoMemory;
-use ws_machines::Machine;
 
-/// So many places, all of them empty.
-pub fn empty_places<M: Machine + Drop, S: Drop>(
-    alloc: Global,
-    len: usize,
-) -> Result<Vec<Option<Slot<M, S>>>, NoMemory>
-    ensures len { IfOk result (λ places. length places.items ≡ len) }
-    ensures empty { IfOk result (λ places. AreEmpty places.items) }
-    ensures able { IfOk result (λ places. AreAble M.agrees M.wants places.items) }
-{
-    let mut places = Vec::new(alloc);
-    while places.len() < len {
-        places.push(None)?;
-    }
-    Ok(places)
+/// What stands in a place of a loop.
+#[derive(Drop)]
+pub enum Place<M, S> {
+    /// Nothing.
+    Empty,
+    /// A slot.
+    Open(Slot<M, S>),
+    /// Nothing any more: memory ran out for the slot that stood here.
+    Broken,
 }
 
-/// The first place that is empty, or the one behind all others where none is.
-pub fn free_place<M, S>(places: &[Option<Slot<M, S>>]) -> usize
+impl<M, S> Place<M, S> {
+    /// Whether nothing stands in it.
+    pub(crate) fn is_empty(&self) -> bool
+        ensures { result ≡ is_empty self.now }
+    {
+        match self {
+            Place::Empty => true,
+            Place::Open(_) | Place::Broken => false,
+        }
+    }
+}
+
+/// The places of a loop. Of each: what stands in it; the call to have a turn in this round, as its stream was found;
+/// and the number that it was given as it ended, until it is taken.
+#[derive(Drop)]
+pub(crate) struct Seats<M, S> {
+    pub(crate) places: Vec<Place<M, S>>,
+    pub(crate) calls: Vec<Option<Readiness>>,
+    pub(crate) tickets: Vec<Option<u64>>,
+    pub(crate) agenda: Agenda,
+}
+
+/// What is to come.
+#[derive(Drop)]
+pub(crate) struct Agenda {
+    /// The places in which something is still due.
+    pub(crate) later: Vec<usize>,
+    /// Of each other place, before which time nothing is due in it.
+    pub(crate) limits: Limits,
+    /// Whether something may be due in any place: memory ran out for the list, or lines were not taken.
+    pub(crate) all: bool,
+    /// The number of the next place that ends.
+    pub(crate) given: u64,
+    /// Whether a place has ended that was not taken.
+    pub(crate) ended: bool,
+}
+
+/// Lists a place. Where memory runs out for that, something may be due in any.
+pub(crate) fn list_place(list: &mut Vec<usize>, all: &mut bool, at: usize)
+    ensures { IsPlaceListed at list.old.items all.old list.new.items all.new }
+{
+    if list.push(at).is_err() {
+        *all = true;
+    }
+}
+
+/// The call of this place to have a turn, if it is called.
+pub(crate) fn call_at(calls: &[Option<Readiness>], at: usize) -> Option<Readiness>
+    requires { at < length calls.now }
+    ensures { slice_get calls.now at ≡ Some result }
+{
+    calls[at]
+}
+
+/// The first place that is empty, or the one behind all others where none is. None in front of this one is.
+pub(crate) fn free_place<M, S>(places: &[Place<M, S>], from: usize) -> usize
+    requires from { AreOccupied places.now from }
+    requires within { from ≤ length places.now }
     ensures { IsFirstFree places.now result }
 {
-    let mut at = 0;
+    let mut at = from;
     while at < places.len() {
-        if places[at].is_none() {
+        if place_at(places, at).is_empty() {
             return at;
         }
         at += 1;
@@ -40,62 +89,52 @@ pub fn free_place<M, S>(places: &[Option<Slot<M, S>>]) -> usize
     at
 }
 
-/// Puts a slot into the first place that is empty, or behind all others where none is, and answers the place.
-pub fn put_slot<M: Machine + Drop, S: Drop>(
-    places: &mut Vec<Option<Slot<M, S>>>,
-    slot: Slot<M, S>,
-) -> Result<usize, NoMemory>
-    requires able { AreAble M.agrees M.wants places.old.items }
-    requires slot { IsAble M.agrees M.wants slot.machine }
-    ensures put { IfOk result (λ at. IsPutAt places.old.items at slot places.new.items) }
-    ensures able { OnOk result (AreAble M.agrees M.wants places.new.items) }
+/// The place that ended first, of those that have.
+pub(crate) fn first_to_end(tickets: &[Option<u64>]) -> Option<usize>
+    ensures { MatchOption result (NoneHasEnded tickets.now) (λ at. IsFirstToEnd tickets.now at) }
 {
-    let at = free_place(places.as_slice());
-    if at < places.len() {
-        fill_place(places.as_mut_slice(), at, slot);
-    } else {
-        add_slot(places, slot)?;
+    let mut first = None;
+    let mut at = 0;
+    while at < tickets.len() {
+        first = earlier(first, at, ticket_at(tickets, at));
+        at += 1;
     }
-    Ok(at)
+    match first {
+        Some((at, _)) => Some(at),
+        None => None,
+    }
 }
 
-/// Puts a slot into this place. One that was there is dropped.
-pub fn fill_place<M: Machine + Drop, S: Drop>(
-    places: &mut [Option<Slot<M, S>>],
-    at: usize,
-    slot: Slot<M, S>,
-)
-    requires at { at < length places.old }
-    requires able { AreAble M.agrees M.wants places.old }
-    requires slot { IsAble M.agrees M.wants slot.machine }
-    ensures filled { places.new ≡ slice_set places.old at (Some slot) }
-    ensures able { AreAble M.agrees M.wants places.new }
-    ensures len { length places.new ≡ length places.old }
+/// The number that this place was given as it ended, if it has.
+pub(crate) fn ticket_at(tickets: &[Option<u64>], at: usize) -> Option<u64>
+    requires { at < length tickets.now }
+    ensures { slice_get tickets.now at ≡ Some result }
 {
-    places[at] = Some(slot);
+    tickets[at]
 }
 
-/// Puts a slot at a place behind all others.
-pub fn add_slot<M: Machine + Drop, S: Drop>(
-    places: &mut Vec<Option<Slot<M, S>>>,
-    slot: Slot<M, S>,
-) -> Result<(), NoMemory>
-    requires able { AreAble M.agrees M.wants places.old.items }
-    requires slot { IsAble M.agrees M.wants slot.machine }
-    ensures added { OnOk result (places.new.items ≡ places.old.items ++ Some slot ∷ []) }
-    ensures able { OnOk result (AreAble M.agrees M.wants places.new.items) }
+/// What stands in this place.
+pub(crate) fn place_at<M, S>(places: &[Place<M, S>], at: usize) -> &Place<M, S>
+    requires { at < length places.now }
+    ensures { slice_get places.now at ≡ Some result.now }
 {
-    places.push(Some(slot))?;
-    Ok(())
+    &places[at]
 }
 
-/// Takes the slot at a place out of it, if there is one: the place is empty then.
-pub fn take_slot<M: Machine, S>(places: &mut [Option<Slot<M, S>>], at: usize) -> Option<Slot<M, S>>
-    requires at { at < length places.old }
-    requires able { AreAble M.agrees M.wants places.old }
-    ensures taken { slice_get places.old at ≡ Some result }
-    ensures empty { places.new ≡ slice_set places.old at None }
-    ensures able { AreAble M.agrees M.wants places.new }
+/// That of both places which ended first, each with its number, if it has ended.
+fn earlier(first: Option<(usize, u64)>, at: usize, ticket: Option<u64>) -> Option<(usize, u64)>
+    ensures { result ≡ earlier_end first at ticket }
 {
-    places[at].take()
+    let Some(ticket) = ticket else {
+        return first;
+    };
+    let Some(before) = first else {
+        return Some((at, ticket));
+    };
+    let (_, number) = before;
+    if number <= ticket {
+        Some(before)
+    } else {
+        Some((at, ticket))
+    }
 }

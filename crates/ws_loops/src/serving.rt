@@ -1,36 +1,99 @@
 //! One thing that is due in a slot is done, and its machine told of it.
 
-ghost use Rattle.std.specs.Prelude.{◌≡◌, ◌<◌, ◌≤◌, ◌∷◌, [], List, ℕ, length, true, false, IfOk, OnOk};
+ghost use Rattle.std.specs.Prelude.{◌≡◌, ◌<◌, ◌≤◌, ◌∷◌, [], List, ℕ, ⊤, length, true, false, IfOk, OnOk};
 ghost use Rattle.ws_machines.specs.Machines.{Extends, HasNext, IsRunning, MayBeTold, told_at};
 ghost use Rattle.ws_loops.specs.Paces.{has_any_bytes, is_due, has_ended_by, is_read_due, is_wait_late, is_write_due};
 ghost use Rattle.ws_loops.specs.Paces.{is_write_late, told_pace};
-ghost use Rattle.ws_loops.specs.Slots.{HasStepped, HasToldOne, IsAble, IsFree};
+ghost use Rattle.ws_loops.specs.Slots.{HasStepped, HasToldOne, IfNoMemory, IfNotTaken, IsAble, IsFree, PutsSome};
 
+use crate::line_sink::LineSink;
 use crate::non_blocking::{NonBlocking, TryRead, TryWrite};
 use crate::slot::Slot;
 use ws_base::NoMemory;
 use ws_machines::{Machine, StreamEvent};
 
-/// Does one thing that is due in a slot, and tells its machine what came of that; at most `share` bytes are moved.
-/// Answers how many were.
-pub(crate) fn step<M: Machine, S: NonBlocking>(
+/// Why a step of a slot has failed.
+#[derive(Drop)]
+pub(crate) enum StepFault<F> {
+    /// Memory ran out for its machine, of which nothing is known then.
+    NoMemory,
+    /// Its lines were not taken. The slot is as before.
+    NotTaken(F),
+}
+
+/// Does one thing that is due in the slot of a place, and tells its machine what came of that; at most `share` bytes
+/// are moved. Answers how many were.
+pub(crate) fn step<M: Machine, S: NonBlocking, K: LineSink>(
     slot: &mut Slot<M, S>,
+    at: usize,
+    sink: &mut K,
     share: usize,
     room: &mut [u8],
     now: u64,
-) -> Result<usize, S::Fault>
+) -> Result<usize, StepFault<K::Fault>>
     requires share { 0 < share }
     requires room { 0 < length room.old }
     requires able { IsAble M.agrees M.wants slot.old.machine }
     requires is_due { is_due (M.wants slot.old.machine) slot.old.pace now ≡ true }
-    ensures step { IfOk result (λ moved. HasStepped M.agrees M.wants S.did M.left now slot.old slot.new moved) }
+    ensures step { IfOk result (λ moved. PutsSome K.heard at sink.old sink.new
+        (λ lines. HasStepped M.agrees M.wants S.did M.left now slot.old slot.new moved lines)) }
     ensures share { IfOk result (λ moved. moved ≤ share) }
+    ensures refused { IfNotTaken result (IsAble M.agrees M.wants slot.new.machine
+        × ((M.wants slot.new.machine).done ≡ false)) }
+    ensures put { IfNoMemory result (PutsSome K.heard at sink.old sink.new (λ lines. ⊤)) }
     ensures len { length room.new ≡ length room.old }
 {
     if !slot.machine.to_report().is_empty() {
-        report(slot, now)?;
+        report(slot, at, sink, now)?;
         return Ok(0);
     }
+    match act(slot, share, room, now) {
+        Ok(moved) => Ok(moved),
+        Err(_refused) => Err(StepFault::NoMemory),
+    }
+}
+
+/// Has the lines of the machine in this place taken.
+fn report<M: Machine, S: NonBlocking, K: LineSink>(
+    slot: &mut Slot<M, S>,
+    at: usize,
+    sink: &mut K,
+    now: u64,
+) -> Result<(), StepFault<K::Fault>>
+    requires able { IsAble M.agrees M.wants slot.old.machine }
+    requires undone { (M.wants slot.old.machine).done ≡ false }
+    requires wanted { 0 < length (M.wants slot.old.machine).report }
+    ensures step { OnOk result (PutsSome K.heard at sink.old sink.new
+        (λ lines. HasStepped M.agrees M.wants S.did M.left now slot.old slot.new 0 lines)) }
+    ensures refused { IfNotTaken result (IsAble M.agrees M.wants slot.new.machine
+        × ((M.wants slot.new.machine).done ≡ false)) }
+    ensures put { IfNoMemory result (PutsSome K.heard at sink.old sink.new (λ lines. ⊤)) }
+{
+    match sink.put(at, slot.machine.to_report()) {
+        Ok(()) => match tell(slot, StreamEvent::Reported, now) {
+            Ok(()) => Ok(()),
+            Err(_refused) => Err(StepFault::NoMemory),
+        },
+        Err(why) => Err(StepFault::NotTaken(why)),
+    }
+}
+
+/// Does one thing that is due in a slot whose machine has no lines.
+fn act<M: Machine, S: NonBlocking>(
+    slot: &mut Slot<M, S>,
+    share: usize,
+    room: &mut [u8],
+    now: u64,
+) -> Result<usize, NoMemory>
+    requires share { 0 < share }
+    requires room { 0 < length room.old }
+    requires able { IsAble M.agrees M.wants slot.old.machine }
+    requires reported { (M.wants slot.old.machine).report ≡ [] }
+    requires is_due { is_due (M.wants slot.old.machine) slot.old.pace now ≡ true }
+    ensures step { IfOk result (λ moved. HasStepped M.agrees M.wants S.did M.left now slot.old slot.new moved []) }
+    ensures share { IfOk result (λ moved. moved ≤ share) }
+    ensures len { length room.new ≡ length room.old }
+{
     if slot.machine.wants_end() {
         end_direction(slot, now)?;
         return Ok(0);
@@ -43,28 +106,16 @@ pub(crate) fn step<M: Machine, S: NonBlocking>(
     Ok(moved)
 }
 
-/// Reports the lines of the machine.
-fn report<M: Machine, S: NonBlocking>(slot: &mut Slot<M, S>, now: u64) -> Result<(), S::Fault>
-    requires able { IsAble M.agrees M.wants slot.old.machine }
-    requires undone { (M.wants slot.old.machine).done ≡ false }
-    requires wanted { 0 < length (M.wants slot.old.machine).report }
-    ensures step { OnOk result (HasStepped M.agrees M.wants S.did M.left now slot.old slot.new 0) }
-{
-    slot.stream.report(slot.machine.to_report())?;
-    tell(slot, StreamEvent::Reported, now)?;
-    Ok(())
-}
-
 /// Ends the own direction of the machine.
 fn end_direction<M: Machine, S: NonBlocking>(
     slot: &mut Slot<M, S>,
     now: u64,
-) -> Result<(), S::Fault>
+) -> Result<(), NoMemory>
     requires able { IsAble M.agrees M.wants slot.old.machine }
     requires undone { (M.wants slot.old.machine).done ≡ false }
     requires reported { (M.wants slot.old.machine).report ≡ [] }
     requires wanted { (M.wants slot.old.machine).end ≡ true }
-    ensures step { OnOk result (HasStepped M.agrees M.wants S.did M.left now slot.old slot.new 0) }
+    ensures step { OnOk result (HasStepped M.agrees M.wants S.did M.left now slot.old slot.new 0 []) }
 {
     slot.stream.end_direction();
     tell(slot, StreamEvent::DirectionEnded, now)?;
@@ -75,13 +126,13 @@ fn end_direction<M: Machine, S: NonBlocking>(
 fn tell_deadline<M: Machine, S: NonBlocking>(
     slot: &mut Slot<M, S>,
     now: u64,
-) -> Result<(), S::Fault>
+) -> Result<(), NoMemory>
     requires able { IsAble M.agrees M.wants slot.old.machine }
     requires undone { (M.wants slot.old.machine).done ≡ false }
     requires reported { (M.wants slot.old.machine).report ≡ [] }
     requires ended { (M.wants slot.old.machine).end ≡ false }
     requires over { has_ended_by slot.old.pace.deadline now ≡ true }
-    ensures step { OnOk result (HasStepped M.agrees M.wants S.did M.left now slot.old slot.new 0) }
+    ensures step { OnOk result (HasStepped M.agrees M.wants S.did M.left now slot.old slot.new 0 []) }
 {
     let waited = slot.pace.has_waited(now);
     tell(slot, StreamEvent::DeadlinePassed(waited), now)?;
@@ -94,13 +145,13 @@ fn move_bytes<M: Machine, S: NonBlocking>(
     share: usize,
     room: &mut [u8],
     now: u64,
-) -> Result<usize, S::Fault>
+) -> Result<usize, NoMemory>
     requires share { 0 < share }
     requires room { 0 < length room.old }
     requires able { IsAble M.agrees M.wants slot.old.machine }
     requires free { IsFree (M.wants slot.old.machine) slot.old.pace now }
     requires is_due { is_due (M.wants slot.old.machine) slot.old.pace now ≡ true }
-    ensures step { IfOk result (λ moved. HasStepped M.agrees M.wants S.did M.left now slot.old slot.new moved) }
+    ensures step { IfOk result (λ moved. HasStepped M.agrees M.wants S.did M.left now slot.old slot.new moved []) }
     ensures share { IfOk result (λ moved. moved ≤ share) }
     ensures len { length room.new ≡ length room.old }
 {
@@ -122,13 +173,13 @@ fn read<M: Machine, S: NonBlocking>(
     share: usize,
     room: &mut [u8],
     now: u64,
-) -> Result<usize, S::Fault>
+) -> Result<usize, NoMemory>
     requires share { 0 < share }
     requires room { 0 < length room.old }
     requires able { IsAble M.agrees M.wants slot.old.machine }
     requires free { IsFree (M.wants slot.old.machine) slot.old.pace now }
     requires is_due { is_read_due (M.wants slot.old.machine) slot.old.pace now ≡ true }
-    ensures step { IfOk result (λ moved. HasStepped M.agrees M.wants S.did M.left now slot.old slot.new moved) }
+    ensures step { IfOk result (λ moved. HasStepped M.agrees M.wants S.did M.left now slot.old slot.new moved []) }
     ensures share { IfOk result (λ moved. moved ≤ share) }
     ensures len { length room.new ≡ length room.old }
 {
@@ -147,13 +198,13 @@ fn write<M: Machine, S: NonBlocking>(
     slot: &mut Slot<M, S>,
     share: usize,
     now: u64,
-) -> Result<usize, S::Fault>
+) -> Result<usize, NoMemory>
     requires share { 0 < share }
     requires able { IsAble M.agrees M.wants slot.old.machine }
     requires free { IsFree (M.wants slot.old.machine) slot.old.pace now }
     requires read { is_read_due (M.wants slot.old.machine) slot.old.pace now ≡ false }
     requires is_due { is_write_due (M.wants slot.old.machine) slot.old.pace now ≡ true }
-    ensures step { IfOk result (λ moved. HasStepped M.agrees M.wants S.did M.left now slot.old slot.new moved) }
+    ensures step { IfOk result (λ moved. HasStepped M.agrees M.wants S.did M.left now slot.old slot.new moved []) }
     ensures share { IfOk result (λ moved. moved ≤ share) }
 {
     let bytes = slot.machine.to_write();
@@ -167,19 +218,19 @@ fn write<M: Machine, S: NonBlocking>(
 }
 
 /// Tells the machine that a limit has passed: of what is to be written, or of what is waited for.
-fn tell_limit<M: Machine, S: NonBlocking>(slot: &mut Slot<M, S>, now: u64) -> Result<(), S::Fault>
+fn tell_limit<M: Machine, S: NonBlocking>(slot: &mut Slot<M, S>, now: u64) -> Result<(), NoMemory>
     requires able { IsAble M.agrees M.wants slot.old.machine }
     requires free { IsFree (M.wants slot.old.machine) slot.old.pace now }
     requires read { is_read_due (M.wants slot.old.machine) slot.old.pace now ≡ false }
     requires written { is_write_due (M.wants slot.old.machine) slot.old.pace now ≡ false }
     requires is_due { is_due (M.wants slot.old.machine) slot.old.pace now ≡ true }
-    ensures step { OnOk result (HasStepped M.agrees M.wants S.did M.left now slot.old slot.new 0) }
+    ensures step { OnOk result (HasStepped M.agrees M.wants S.did M.left now slot.old slot.new 0 []) }
 {
     if slot.is_write_late(now) {
         tell(slot, StreamEvent::WriteFailed, now)?;
-    } else {
-        tell(slot, StreamEvent::NothingCame, now)?;
+        return Ok(());
     }
+    tell(slot, StreamEvent::NothingCame, now)?;
     Ok(())
 }
 

@@ -5,7 +5,7 @@ use Rattle.std.proofs.lemmas.Bool.{false≢true}
 use Rattle.ws_networks.specs.Networks.{HasAdded, NetworkDeed, is_pending}
 use Rattle.ws_networks.specs.Networks.NetworkDeed.{Asked, Begun, NotBegun}
 use Rattle.ws_networks.specs.Bounds.{is_given_up}
-use Rattle.ws_networks.specs.Connecting.{HasAsked, HasTriedOne, connected_by, miss_of}
+use Rattle.ws_networks.specs.Connecting.{HasAsked, HasTriedOne, connected_by, miss_of, only_place}
 use Rattle.ws_networks.specs.declared.bounds.Bounds.{Bounds}
 use Rattle.ws_networks.specs.declared.network.Progress.{Progress}
 use Rattle.ws_networks.specs.declared.network.Progress.TheVariants as progress
@@ -46,28 +46,28 @@ module _ {A W N : Type 0} (did : N → N → List (NetworkDeed A W) → Type 0) 
 
   -- it was begun, and then asked how far it has come
   tried_by : {S : Type 0} (bounds : Bounds) (from since now : ℕ) (old mid new : N) (address : A) (stream : S)
-      (p : Progress W) → from ≤ since → since ≤ now → HasAdded did old mid (Begun address ∷ []) → HasAsked did mid new p
+      (p : Progress W) → from ≤ since → since ≤ now → HasAdded did old mid (Begun only_place address ∷ []) → HasAsked did mid new p
       → (is_pending p ≡ true → is_given_up bounds since now ≡ true)
       → HasTriedOne did bounds from now old new address (miss_of (connected_by stream p))
   tried_by bounds from since now old mid new address stream progress.Made h k begun (deeds, asked, are) late = (
-    Begun address ∷ deeds,
-    added_then did old mid new (Begun address ∷ []) deeds begun asked,
+    Begun only_place address ∷ deeds,
+    added_then did old mid new (Begun only_place address ∷ []) deeds begun asked,
     (deeds, refl, are),
   )
   tried_by bounds from since now old mid new address stream progress.Pending h k begun (deeds, asked, are) late = (
-    Begun address ∷ deeds,
-    added_then did old mid new (Begun address ∷ []) deeds begun asked,
+    Begun only_place address ∷ deeds,
+    added_then did old mid new (Begun only_place address ∷ []) deeds begun asked,
     (since, now, h, k, omega arith, ((deeds, refl, are), late refl)),
   )
   tried_by bounds from since now old mid new address stream (progress.Failed why) h k begun (deeds, asked, are) late = (
-    Begun address ∷ deeds,
-    added_then did old mid new (Begun address ∷ []) deeds begun asked,
+    Begun only_place address ∷ deeds,
+    added_then did old mid new (Begun only_place address ∷ []) deeds begun asked,
     (since, now, h, k, omega arith, inr (deeds, refl, are)),
   )
 
   -- what came of it
   pub tried_so : {S : Type 0} (bounds : Bounds) (from since now : ℕ) (old mid new : N) (address : A) (stream : S)
-      (p : Progress W) → from ≤ since → since ≤ now → HasAdded did old mid (Begun address ∷ []) → HasAsked did mid new p
+      (p : Progress W) → from ≤ since → since ≤ now → HasAdded did old mid (Begun only_place address ∷ []) → HasAsked did mid new p
       → (is_pending p ≡ true → is_given_up bounds since now ≡ true) → (met : Connected S W) → met ≡ connected_by stream p
       → HasTriedOne did bounds from now old new address (miss_of met)
   tried_so {S} bounds from since now old mid new address stream p h k begun asked late met is = subst

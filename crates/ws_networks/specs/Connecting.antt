@@ -17,9 +17,13 @@ use Rattle.ws_networks.specs.declared.connecting.Missed.TheVariants as miss
 abbrev pub AreAsked : {A W : Type 0} → Progress W → List (NetworkDeed A W) → Type 0
 AreAsked at_last deeds = (n : ℕ) × (deeds ≡ replicate n (Asked progress.Pending) ++ Asked at_last ∷ [])
 
+-- the place of a loop for which it is made: the first, as it is waited for by itself
+abbrev pub only_place : ℕ
+only_place = 0
+
 -- a connection to this address was begun, and at last it was so
 abbrev pub WasBegun : {A W : Type 0} → A → Progress W → List (NetworkDeed A W) → Type 0
-WasBegun {A} {W} address at_last deeds = (asked : List (NetworkDeed A W)) × (deeds ≡ Begun address ∷ asked)
+WasBegun {A} {W} address at_last deeds = (asked : List (NetworkDeed A W)) × (deeds ≡ Begun only_place address ∷ asked)
     × AreAsked at_last asked
 
 -- The address has taken no connection, and was tried from the first time to the second. It could not be begun, or has

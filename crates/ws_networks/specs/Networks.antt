@@ -3,13 +3,14 @@ use Rattle.std.specs.Prelude.{ℕ, Bool, true, false, List, ◌++◌}
 use Rattle.ws_networks.specs.declared.network.Progress.{Progress}
 use Rattle.ws_networks.specs.declared.network.Progress.TheVariants.{Made, Pending, Failed}
 
--- One thing that a network did: for this name it found these addresses, or none, for this reason. A connection to this
--- address was begun, or was not, for this reason. It was asked how far the connection has come that was begun last. It
--- listens at this address, or does not, for this reason. It was asked at which address a listener takes clients.
+-- One thing that a network did: for this name it found these addresses, or none, for this reason. A connection was
+-- begun for this place of a loop, to this address, or was not, for this reason. It was asked how far the connection has
+-- come that was begun last. It listens at this address, or does not, for this reason. It was asked at which address a
+-- listener takes clients.
 pub data NetworkDeed (A W : Type 0) : Type 0 where
   Found : List ℕ → List A → NetworkDeed A W
   NotFound : List ℕ → W → NetworkDeed A W
-  Begun : A → NetworkDeed A W
+  Begun : ℕ → A → NetworkDeed A W
   NotBegun : A → W → NetworkDeed A W
   Asked : Progress W → NetworkDeed A W
   Bound : A → NetworkDeed A W

@@ -9,12 +9,18 @@ ghost use Rattle.ws_networks.specs.Connecting.{connected_by, miss_of};
 use crate::bounds::Bounds;
 use crate::network::{Network, Progress};
 use std::alloc::Global;
-use ws_loops::{Poller, Readiness, WaitFailed};
+use ws_loops::{Mark, Poller, Readiness, WaitFailed, Wake};
 
-/// A stream of which nothing is known.
-const UNKNOWN: Readiness = Readiness {
-    read: false,
-    write: false,
+/// The place for which a connection is begun that is waited for by itself.
+pub(crate) const ONLY: usize = 0;
+
+/// What is told of nothing.
+const NOTHING: Wake = Wake {
+    mark: Mark::Listener,
+    ready: Readiness {
+        read: false,
+        write: false,
+    },
 };
 
 /// What came of a connection.
@@ -38,7 +44,7 @@ pub enum Missed<W> {
 }
 
 /// Connects to the first address of a name that takes a connection, in time for each. Where none does, the reason is
-/// that of the first one. The poller waits for the one stream that is begun, under the number 0.
+/// that of the first one. The poller waits for the one stream that is begun, for the first place.
 pub fn connect<N: Network, P: Poller>(
     alloc: Global,
     network: &mut N,
@@ -114,7 +120,7 @@ fn try_address<N: Network, P: Poller>(
     ensures later { IfOk result (λ met. P.time poller.old ≤ P.time poller.new) }
 {
     let since = poller.now();
-    match network.begin(address, 0) {
+    match network.begin(address, ONLY) {
         Ok(stream) => {
             let progress = wait_made(network, poller, &stream, since, bounds)?;
             Ok(outcome_of(stream, progress))
@@ -149,10 +155,10 @@ fn wait_made<N: Network, P: Poller>(
     ensures later { IfOk result (λ progress. P.time poller.old ≤ P.time poller.new) }
 {
     let mut now = since;
-    let mut ready = [UNKNOWN];
+    let mut found = [NOTHING];
     let mut progress = network.progress(stream);
     while progress.is_pending() && !bounds.is_given_up(since, now) {
-        poller.wait(&mut ready, bounds.gives_up_at(since))?;
+        poller.wait(&mut found, bounds.gives_up_at(since))?;
         now = poller.now();
         progress = network.progress(stream);
     }

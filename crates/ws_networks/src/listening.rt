@@ -17,12 +17,10 @@ pub enum Unheard<W> {
 }
 
 /// Listens at the first address of a name that can be listened at. Where none can, the reason is that of the first one.
-/// The loop's poller marks the listener under this number.
 pub fn listen<N: Network>(
     alloc: Global,
     network: &mut N,
     name: &str,
-    at: usize,
 ) -> Result<N::Listener, Unheard<N::Miss>>
     ensures listens { MatchResult result
         (λ listener. HasAddedSome N.did network.old network.new (Listens name.now))
@@ -30,7 +28,7 @@ pub fn listen<N: Network>(
     ensures fresh { IfOk result (λ listener. N.Listener.did listener listener []) }
 {
     match network.look_up(alloc, name) {
-        Ok(addresses) => listen_at(network, addresses.as_slice(), at),
+        Ok(addresses) => listen_at(network, addresses.as_slice()),
         Err(why) => Err(Unheard::Failed(why)),
     }
 }
@@ -39,7 +37,6 @@ pub fn listen<N: Network>(
 fn listen_at<N: Network>(
     network: &mut N,
     addresses: &[N::Address],
-    at: usize,
 ) -> Result<N::Listener, Unheard<N::Miss>>
     ensures tried { MatchResult result
         (λ listener. HasAddedSome N.did network.old network.new (OneBound addresses.now))
@@ -50,7 +47,7 @@ fn listen_at<N: Network>(
     let mut tried = 0;
     while tried < addresses.len() {
         let address = address_at(addresses, tried);
-        match network.bind(address, at) {
+        match network.bind(address) {
             Ok(listener) => return Ok(listener),
             Err(why) => first = first_of(first, why, tried),
         }

@@ -1,15 +1,17 @@
 //! One machine that is run over a connection to a name.
 
-ghost use Rattle.std.specs.Prelude.{◌≡◌, ◌<◌, [], length, IfOk, true};
+ghost use Rattle.std.specs.Prelude.{◌≡◌, ◌<◌, ◌∷◌, [], length, IfOk, true};
 ghost use Rattle.ws_machines.specs.Machines.{HasNext};
 ghost use Rattle.ws_loops.specs.Slots.{HasRun, IsAble};
+ghost use Rattle.ws_loops.specs.declared.places.Place.TheVariants.{Open};
 ghost use Rattle.ws_networks.specs.Meetings.{HasEndedSince, HasMet};
 
 use crate::bounds::{Bounds, Limits};
-use crate::connecting::{Connected, Missed, connect};
+use crate::connecting::{Connected, Missed, ONLY, connect};
 use crate::network::Network;
 use std::alloc::Global;
-use ws_loops::{NonBlocking, Pace, Poller, Slot, add_slot, run_until_done, take_slot};
+use ws_base::NoMemory;
+use ws_loops::{Loop, LoopFault, NoLines, NonBlocking, Pace, Place, Poller, Slot};
 use ws_machines::Machine;
 
 /// What came of a machine that was to be run over a connection.
@@ -30,7 +32,7 @@ pub fn run_at<M: Machine + Drop, N: Network, P: Poller>(
     machine: M,
     limits: Limits,
     room: &mut [u8],
-) -> Result<Met<M::End, N::Stream, N::Miss>, <N::Stream as NonBlocking>::Fault>
+) -> Result<Met<M::End, N::Stream, N::Miss>, LoopFault>
     requires room { 0 < length room.old }
     requires untold { M.agrees machine machine [] }
     requires goes_on { HasNext (M.wants machine) }
@@ -57,7 +59,7 @@ fn run_made<M: Machine + Drop, S: NonBlocking + Drop, P: Poller>(
     stream: S,
     bounds: Bounds,
     room: &mut [u8],
-) -> Result<(M::End, S), S::Fault>
+) -> Result<(M::End, S), LoopFault>
     requires room { 0 < length room.old }
     requires fresh { S.did stream stream [] }
     requires untold { M.agrees machine machine [] }
@@ -92,19 +94,31 @@ pub fn run_slot<M: Machine + Drop, S: NonBlocking + Drop, P: Poller>(
     poller: &mut P,
     slot: Slot<M, S>,
     room: &mut [u8],
-) -> Result<Slot<M, S>, S::Fault>
+) -> Result<Slot<M, S>, LoopFault>
     requires room { 0 < length room.old }
     requires able { IsAble M.agrees M.wants slot.machine }
     ensures run { IfOk result (λ done. HasRun M.agrees M.wants S.did (P.time poller.old) (P.time poller.new)
         slot done) }
     ensures done { IfOk result (λ done. (M.wants done.machine).done ≡ true) }
 {
-    let mut places = Vec::new(alloc);
-    add_slot(&mut places, slot)?;
-    let slots = places.as_mut_slice();
-    run_until_done(alloc, poller, slots, room)?;
-    match take_slot(slots, 0) {
-        Some(slot) => Ok(slot),
-        None => unreachable!(),
+    let mut one = loop_of(alloc, slot)?;
+    one.run(poller, &mut NoLines, None, room)?;
+    match one.take(ONLY) {
+        Place::Open(slot) => Ok(slot),
+        Place::Broken => Err(LoopFault::NoMemory),
+        Place::Empty => unreachable!(),
     }
+}
+
+/// A loop of one place, in which this slot stands.
+fn loop_of<M: Machine + Drop, S: NonBlocking + Drop>(
+    alloc: Global,
+    slot: Slot<M, S>,
+) -> Result<Loop<M, S>, NoMemory>
+    requires able { IsAble M.agrees M.wants slot.machine }
+    ensures { IfOk result (λ one. one.places ≡ Open slot ∷ []) }
+{
+    let mut one = Loop::new(alloc, 1)?;
+    one.put(ONLY, slot);
+    Ok(one)
 }

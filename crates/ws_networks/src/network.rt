@@ -31,8 +31,8 @@ impl<W: Copy> Progress<W> {
     }
 }
 
-/// It looks names up, begins connections and listens, each at a place of a loop: under its number the loop's poller
-/// marks the stream or the listener that is found ready. No call waits, but a look-up.
+/// It looks names up, begins connections, each for a place of a loop, and listens: under the mark of that place, or of
+/// the listener, the loop's poller tells of it. No call waits, but a look-up.
 pub trait Network {
     ghost use Rattle.std.specs.Prelude.{List};
     ghost use Rattle.ws_networks.specs.Networks.{NetworkDeed};
@@ -59,10 +59,10 @@ pub trait Network {
             (λ addresses. HasAdded did self.old self.new (Found name.now addresses.items ∷ []))
             (λ why. HasAdded did self.old self.new (NotFound name.now why ∷ [])) };
 
-    /// Begins a connection to an address. Its stream has done nothing yet.
+    /// Begins a connection to an address, for this place. Its stream has done nothing yet.
     fn begin(&mut self, address: Self::Address, at: usize) -> Result<Self::Stream, Self::Miss>
         ensures did { MatchResult result
-            (λ stream. HasAdded did self.old self.new (Begun address ∷ []))
+            (λ stream. HasAdded did self.old self.new (Begun at address ∷ []))
             (λ why. HasAdded did self.old self.new (NotBegun address why ∷ [])) }
         ensures fresh { IfOk result (λ stream. Self.Stream.did stream stream []) };
 
@@ -71,7 +71,7 @@ pub trait Network {
         ensures { HasAdded did self.old self.new (Asked result ∷ []) };
 
     /// Listens at an address; where its port is 0, at one that the system chooses. The listener has done nothing yet.
-    fn bind(&mut self, address: Self::Address, at: usize) -> Result<Self::Listener, Self::Miss>
+    fn bind(&mut self, address: Self::Address) -> Result<Self::Listener, Self::Miss>
         ensures did { MatchResult result
             (λ listener. HasAdded did self.old self.new (Bound address ∷ []))
             (λ why. HasAdded did self.old self.new (NotBound address why ∷ [])) }

@@ -1,1 +1,2 @@
 pub mod LostClients
+pub mod Tokens

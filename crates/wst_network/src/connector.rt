@@ -1,6 +1,5 @@
 //! What gives a network for one connection, and how a stream of it has ended.
 
-use crate::fault::NetworkFault;
 use std::alloc::Global;
 use std::io;
 use std::io::ErrorKind;
@@ -36,7 +35,7 @@ pub enum ConnectMiss {
 /// It gives a network for one connection, and what waits for that.
 pub trait Connector {
     /// A connection of the network.
-    type Stream: EndingStream<Fault = NetworkFault> + Drop;
+    type Stream: EndingStream + Drop;
 
     type Network: Network<Stream = Self::Stream, Miss = ConnectMiss> + Drop;
 

@@ -7,12 +7,10 @@
 #![tactic(auto)]
 
 mod connector;
-mod fault;
 mod lost_clients;
 mod system;
 
 pub use connector::{ConnectMiss, Connector, EndingStream, StreamEnd};
-pub use fault::NetworkFault;
 pub use lost_clients::is_of_lost_client;
 pub use system::{
     SystemConnector, SystemListener, SystemNetwork, SystemPoller, SystemStream, system_network,

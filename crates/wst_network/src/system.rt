@@ -1,11 +1,11 @@
 //! Sockets of the system over `mio`: connections that are begun, listeners, streams that don't wait, and one wait for
 //! all of them. No contract of a socket says which bytes pass, and none of the clock that it goes on.
 
-ghost use Rattle.std.specs.Prelude.{◌≡◌, length, IfOk};
+ghost use Rattle.std.specs.Prelude.{◌≡◌, ◌≤◌, length, IfOk};
 ghost use Rattle.std.specs.Iterator.{Drains, IsFinite};
+ghost use Rattle.wst_network.specs.Tokens.{token_mark, token_number};
 
 use crate::connector::{ConnectMiss, Connector, EndingStream, StreamEnd};
-use crate::fault::NetworkFault;
 use crate::lost_clients::is_of_lost_client;
 use mio::net::{TcpListener, TcpStream};
 use mio::{Events, Interest, Poll, Registry, Token};
@@ -15,7 +15,7 @@ use std::io::{ErrorKind, Read, Write};
 use std::net::{Net, Shutdown, SocketAddr, ToSocketAddrs};
 use std::time::{Clock, Duration, Instant};
 use ws_loops::{
-    Listener, NonBlocking, Poller, Readiness, TryAccept, TryRead, TryWrite, WaitFailed,
+    Listener, Mark, NonBlocking, Poller, Readiness, TryAccept, TryRead, TryWrite, WaitFailed, Wake,
 };
 use ws_networks::{Network, Progress};
 
@@ -35,6 +35,8 @@ pub struct SystemPoller<'a, C> {
     clock: &'a C,
     poll: Poll,
     events: Events<Global>,
+    /// So many of the events were told.
+    told: usize,
     start: Instant,
     time: u64,
     left: u64,
@@ -55,6 +57,7 @@ pub fn system_network<'a, N: Net + Clock>(
             clock: net,
             poll,
             events,
+            told: 0,
             start,
             time: 0,
             left: u64::MAX,
@@ -136,8 +139,8 @@ impl<N: Net> Network for SystemNetwork<'_, N> {
         }
     }
 
-    fn bind(&mut self, address: SocketAddr, at: usize) -> Result<SystemListener, ConnectMiss> {
-        match self.bound(address, at) {
+    fn bind(&mut self, address: SocketAddr) -> Result<SystemListener, ConnectMiss> {
+        match self.bound(address) {
             Ok(listener) => Ok(listener),
             Err(error) => Err(ConnectMiss::NotTaken(error.kind())),
         }
@@ -163,27 +166,49 @@ fn all_of<I: Iterator<Item = SocketAddr>>(
 }
 
 impl<N: Net> SystemNetwork<'_, N> {
-    /// A connection that was begun. The poller tells of it by this number. What is written goes out at once.
+    /// A connection that was begun, for this place. What is written goes out at once.
     fn begun(&mut self, address: SocketAddr, at: usize) -> io::Result<TcpStream> {
         let mut stream = TcpStream::connect(self.net, address)?;
         make_ready(&self.registry, &mut stream, at)?;
         Ok(stream)
     }
 
-    /// An address that is listened at. The poller tells of it by this number.
-    fn bound(&mut self, address: SocketAddr, at: usize) -> io::Result<SystemListener> {
+    /// An address that is listened at.
+    fn bound(&mut self, address: SocketAddr) -> io::Result<SystemListener> {
         let mut listener = TcpListener::bind(self.net, address)?;
         let registry = self.registry.try_clone()?;
-        registry.register(&mut listener, Token(at), Interest::READABLE)?;
+        let token = Token(number_of(Mark::Listener));
+        registry.register(&mut listener, token, Interest::READABLE)?;
         Ok(SystemListener { listener, registry })
     }
 }
 
-/// From now on what is written to a stream goes out at once, and the poller tells of it by this number.
+/// From now on what is written to a stream goes out at once, and the poller tells of it under the mark of this place.
 fn make_ready(registry: &Registry, stream: &mut TcpStream, at: usize) -> io::Result<()> {
     stream.set_nodelay(true)?;
-    registry.register(stream, Token(at), Interest::READABLE | Interest::WRITABLE)?;
+    let token = Token(number_of(Mark::Place(at)));
+    registry.register(stream, token, Interest::READABLE | Interest::WRITABLE)?;
     Ok(())
+}
+
+/// The number of a mark for the system: the listener has one of its own.
+fn number_of(mark: Mark) -> usize
+    ensures { result ≡ token_number mark }
+{
+    match mark {
+        Mark::Listener => 0,
+        Mark::Place(at) => at.saturating_add(1),
+    }
+}
+
+/// The mark of this number.
+fn mark_of(number: usize) -> Mark
+    ensures { result ≡ token_mark number }
+{
+    match number.checked_sub(1) {
+        Some(at) => Mark::Place(at),
+        None => Mark::Listener,
+    }
 }
 
 /// An address that is listened at.
@@ -194,7 +219,7 @@ pub struct SystemListener {
 }
 
 impl SystemListener {
-    /// The stream of a client. The poller tells of it by this number.
+    /// The stream of a client, for this place.
     fn made_ready(&self, stream: TcpStream, at: usize) -> io::Result<SystemStream> {
         let mut stream = stream;
         make_ready(&self.registry, &mut stream, at)?;
@@ -221,7 +246,7 @@ impl Listener for SystemListener {
                 Ok((stream, _)) => {
                     return match self.made_ready(stream, at) {
                         Ok(stream) => TryAccept::Client(stream),
-                        Err(error) => TryAccept::Failed(ConnectMiss::NotTaken(error.kind())),
+                        Err(error) => TryAccept::Lost(ConnectMiss::NotTaken(error.kind())),
                     };
                 }
                 Err(error) if error.kind() == ErrorKind::WouldBlock => return TryAccept::NotReady,
@@ -258,8 +283,6 @@ impl EndingStream for SystemStream {
 /// A call that a signal interrupts is made again.
 impl NonBlocking for SystemStream {
     ghost use Rattle.std.specs.Prelude.{⊤};
-
-    type Fault = NetworkFault;
 
     ghost did = { λ old new deeds. ⊤ };
 
@@ -308,10 +331,6 @@ impl NonBlocking for SystemStream {
     fn end_direction(&mut self) {
         let _ = self.stream.shutdown(Shutdown::Write);
     }
-
-    fn report(&mut self, _lines: &[u8]) -> Result<(), NetworkFault> {
-        Err(NetworkFault::NoOutput)
-    }
 }
 
 impl<C: Clock> SystemPoller<'_, C> {
@@ -359,41 +378,52 @@ impl<C: Clock> Poller for SystemPoller<'_, C> {
         self.time
     }
 
-    fn wait(&mut self, ready: &mut [Readiness], until: Option<u64>) -> Result<(), WaitFailed> {
+    fn wait(&mut self, found: &mut [Wake], until: Option<u64>) -> Result<usize, WaitFailed> {
         if self.left == 0 {
             return Err(WaitFailed);
         }
         self.left -= 1;
+        let rest = tell(&self.events, self.told, found);
+        if rest > 0 {
+            self.told = self.told.saturating_add(rest);
+            return Ok(rest);
+        }
         for _ in 0..u64::MAX {
             let rest = self.rest(until);
             if self.poll.poll(&mut self.events, rest).is_err() {
                 return Err(WaitFailed);
             }
-            if mark(&self.events, ready) || self.has_come(until) {
-                return Ok(());
+            self.told = tell(&self.events, 0, found);
+            if self.told > 0 || self.has_come(until) {
+                return Ok(self.told);
             }
         }
-        Ok(())
+        Ok(0)
     }
 }
 
-/// Marks the streams that were found ready, each at its place, and answers whether there was one. One that has failed
-/// may be read and written: the call says so.
-fn mark(events: &Events<Global>, ready: &mut [Readiness]) -> bool
-    ensures { length ready.new ≡ length ready.old }
+/// Tells of the streams that were found ready, but the first ones, as far as there is room, and answers of how many.
+/// One that has failed may be read and written: the call says so.
+fn tell(events: &Events<Global>, told: usize, found: &mut [Wake]) -> usize
+    ensures len { length found.new ≡ length found.old }
+    ensures count { result ≤ length found.new }
 {
-    let mut any = false;
+    let mut count = 0;
+    let mut at = 0usize;
     for event in events.iter() {
-        let Token(at) = event.token();
-        if at < ready.len() {
+        if at >= told && count < found.len() {
+            let Token(number) = event.token();
             let failed = event.is_error();
-            let before = ready[at];
-            ready[at] = Readiness {
-                read: before.read || failed || event.is_readable() || event.is_read_closed(),
-                write: before.write || failed || event.is_writable() || event.is_write_closed(),
+            found[count] = Wake {
+                mark: mark_of(number),
+                ready: Readiness {
+                    read: failed || event.is_readable() || event.is_read_closed(),
+                    write: failed || event.is_writable() || event.is_write_closed(),
+                },
             };
-            any = true;
+            count += 1;
         }
+        at = at.saturating_add(1);
     }
-    any
+    count
 }

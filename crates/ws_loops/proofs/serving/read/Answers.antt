@@ -1,6 +1,5 @@
 -- What came into the room is what the machine is told; where nothing came it is idle from then on.
-use Rattle.std.proofs.Common.{◌≡◌}
-use Rattle.std.proofs.Common.{nat_lt, subst, sym}
+use Rattle.std.proofs.Common.{◌≡◌, [], nat_lt, subst, sym}
 use Rattle.std.proofs.lemmas.Option.{MatchOption-at_none, MatchOption-at_some}
 use Rattle.ws_machines.specs.Machines.{told_at}
 use Rattle.ws_machines.specs.declared.stream.StreamEvent.{StreamEvent}
@@ -24,7 +23,7 @@ returns-clause-step g c =
     let next = read_next wants slot.pace c.args.now room outcome c.requires.free c.requires.is_due in
     elim c.match-event.branch [
       | in-Some+in_ok-tell-in-Some w ↦ subst (λ (x : Slot g.row.M.Denot g.row.S.Denot). HasStepped g.M.Machine.agrees
-          g.M.Machine.wants g.S.NonBlocking.did g.M.Machine.left c.args.now slot x c.count.result) (sym w.slot-is)
+          g.M.Machine.wants g.S.NonBlocking.did g.M.Machine.left c.args.now slot x c.count.result []) (sym w.slot-is)
           (did_so g.M.Machine.agrees g.M.Machine.wants g.S.NonBlocking.did g.M.Machine.left c.args.now slot
           c.try_read-outcome.new.self w.tell.new.slot deed (told_at wants w.in-Some.event) c.count.result
           (MatchOption-at_some (deed ≡ HadNone) (λ (x : StreamEvent). deed ≡ Did (told_at wants x)) w.in-Some.event

@@ -1,15 +1,24 @@
--- The lines that were reported are those that were wanted.
-use Rattle.std.proofs.Common.{List, ℕ, ap, refl}
-use Rattle.ws_machines.specs.Told.Told.{Reported}
-use Rattle.ws_loops.specs.Deeds.Deed.{Did}
-use Rattle.ws_loops.proofs.StepLemmas.{did_so}
+-- The lines that were taken are those that were wanted.
+use Rattle.std.proofs.Common.{◌∷◌, [], List, ℕ, refl, subst}
+use Rattle.ws_loops.specs.Sinks.{HasTakenLines}
+use Rattle.ws_loops.proofs.StepLemmas.{showed_so}
 use Rattle.ws_loops.proofs.serving.report.Goals as goal
 
-pub returns : goal.returns
-returns g c = record {
-  step = did_so g.M.Machine.agrees g.M.Machine.wants g.S.NonBlocking.did g.M.Machine.left c.args.now c.args.slot.now
-      c.report.new.self c.tell.new.slot (Did (Reported c.to_report.result.now))
-      (Reported (g.M.Machine.wants c.args.slot.now.machine).report) 0
-      (ap (λ (l : List ℕ). Did (Reported l)) c.to_report.ensures) refl c.in_ok-tell.ensures.told
-      c.in_ok-tell.ensures.kept c.in_ok-report.ensures c.requires.undone;
-}
+pub returns-in-Ok-tell-clause-step : goal.returns-in-Ok-tell-clause-step
+returns-in-Ok-tell-clause-step g c =
+    let lines = (g.M.Machine.wants c.args.slot.now.machine).report in (
+      lines ∷ [],
+      subst (λ (l : List ℕ). HasTakenLines g.K.LineSink.heard c.args.sink.now c.put.new.self ((c.args.at, l) ∷ []))
+          c.to_report.ensures c.in-Ok.ensures,
+      showed_so g.M.Machine.agrees g.M.Machine.wants g.S.NonBlocking.did g.M.Machine.left c.args.now c.args.slot.now
+          c.tell.new.slot lines c.in-Ok-tell.ensures.told c.in-Ok-tell.ensures.kept (c.requires.undone, refl),
+    )
+
+pub returns-in-Err-tell-clause-put : goal.returns-in-Err-tell-clause-put
+returns-in-Err-tell-clause-put g c =
+    let lines = (g.M.Machine.wants c.args.slot.now.machine).report in (
+      lines ∷ [],
+      subst (λ (l : List ℕ). HasTakenLines g.K.LineSink.heard c.args.sink.now c.put.new.self ((c.args.at, l) ∷ []))
+          c.to_report.ensures c.in-Ok.ensures,
+      tt,
+    )

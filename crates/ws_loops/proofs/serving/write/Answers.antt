@@ -28,7 +28,7 @@ returns-clause-step g c =
     let next = write_next wants slot.pace c.args.now piece outcome c.requires.free c.requires.read c.requires.is_due in
     elim c.match-event.branch [
       | in-Some+in_ok-tell-in-Some w ↦ subst (λ (x : Slot g.row.M.Denot g.row.S.Denot). HasStepped g.M.Machine.agrees
-          g.M.Machine.wants g.S.NonBlocking.did g.M.Machine.left c.args.now slot x c.count.result) (sym w.slot-is)
+          g.M.Machine.wants g.S.NonBlocking.did g.M.Machine.left c.args.now slot x c.count.result []) (sym w.slot-is)
           (did_so g.M.Machine.agrees g.M.Machine.wants g.S.NonBlocking.did g.M.Machine.left c.args.now slot
           c.try_write-outcome.new.self w.tell.new.slot deed (told_at wants w.in-Some.event) c.count.result
           (write_told wants len outcome w.in-Some.event (sym c.event.ensures ∙ w.in-Some.is) fits) moved

@@ -1,7 +1,0 @@
--- the machine of each slot so far is able to go on
-use Rattle.ws_loops.specs.Rounds.{AreAble}
-use Rattle.test_loops.specs.Noted.{noted_agrees, noted_wants}
-use Rattle.test_loops.proofs.echoes.run_echoes.Given as goal
-
-abbrev pub invariant-echoes : goal.invariant-echoes
-invariant-echoes l = AreAble noted_agrees noted_wants l.places.items

@@ -1,9 +1,0 @@
--- An exchange that has just begun is able to go on.
-use Rattle.test_loops.proofs.NotedLemmas.{able}
-use Rattle.test_loops.proofs.noted_exchange.NotedExchange.new.Goals as goal
-
-pub returns : goal.returns
-returns c = record {
-  able = able (record { exchange = c.new-exchange.result; told = c.new.result }) c.new-exchange.ensures.begins;
-  untold = c.new-exchange.ensures.begins;
-}

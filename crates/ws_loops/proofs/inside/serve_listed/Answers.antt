@@ -1,0 +1,104 @@
+-- The places that are listed are called, and each has its turn; in the others nothing is due.
+use Rattle.std.proofs.Common.{◌∙◌, refl, subst}
+use Rattle.ws_loops.specs.Inside.{AreAllCalled}
+use Rattle.ws_loops.specs.Loops.{AreServed}
+use Rattle.ws_loops.specs.declared.inside.Inside.{Inside}
+use Rattle.ws_loops.specs.declared.places.Seats.{Seats}
+use Rattle.ws_loops.proofs.InsideLemmas.{among_listed, none_called, not_due_listed, rests_listed}
+use Rattle.ws_loops.proofs.InsideLemmas.{served_over, standing_same, turns_by_call, whole_refused, whole_served}
+use Rattle.ws_loops.proofs.inside.serve_listed.Goals as goal
+
+pub serve_these-requires-clause-standing : goal.serve_these-requires-clause-standing
+serve_these-requires-clause-standing g c = standing_same g.M.Machine.agrees g.M.Machine.wants c.args.inside.now.seats _
+    c.requires.whole.standing refl c.call_these.ensures.called.len refl refl refl refl
+
+pub serve_these-requires-clause-rests : goal.serve_these-requires-clause-rests
+serve_these-requires-clause-rests g c =
+    let old = c.args.inside.now in
+    let passed : Seats g.row.M.Denot g.row.S.Denot = record {
+      places = old.seats.places;
+      calls = c.call_these.new.calls;
+      tickets = old.seats.tickets;
+      agenda = old.seats.agenda;
+    } in
+    rests_listed g.M.Machine.agrees g.M.Machine.wants old passed c.requires.whole
+    (subst (λ l. AreAllCalled l old.seats.calls.items c.call_these.new.calls.items) c.as_slice.ensures.value
+    c.call_these.ensures.called) c.requires.some refl refl
+
+pub returns-in-Ok-clause-served : goal.returns-in-Ok-clause-served
+returns-in-Ok-clause-served g c =
+    let agrees = g.M.Machine.agrees in
+    let wants = g.M.Machine.wants in
+    let did = g.S.NonBlocking.did in
+    let heard = g.K.LineSink.heard in
+    let old = c.args.inside.now in
+    let passed : Seats g.row.M.Denot g.row.S.Denot = record {
+      places = old.seats.places;
+      calls = c.call_these.new.calls;
+      tickets = old.seats.tickets;
+      agenda = old.seats.agenda;
+    } in
+    let called : AreAllCalled old.list.items old.seats.calls.items c.call_these.new.calls.items =
+    subst (λ l. AreAllCalled l old.seats.calls.items c.call_these.new.calls.items) c.as_slice.ensures.value
+    c.call_these.ensures.called in
+    let served : AreServed agrees wants did heard c.args.now old.list.items passed
+    c.serve_these.new.seats c.args.sink.now c.serve_these.new.sink = subst (λ l. AreServed agrees wants did heard
+    c.args.now l passed c.serve_these.new.seats c.args.sink.now c.serve_these.new.sink)
+    c.as_slice-2.ensures.value c.in-Ok.ensures.served in
+    let served_inside : Inside g.row.M.Denot g.row.S.Denot = record {
+      seats = c.serve_these.new.seats;
+      list = old.list;
+      all = old.all;
+      found = old.found;
+      door = old.door;
+      free = old.free;
+    } in
+    let among = among_listed agrees wants did heard old c.call_these.new.calls.items c.args.now c.requires.whole called
+    c.requires.some in
+    let turns = turns_by_call agrees wants did heard c.args.now old.list.items old.seats passed
+    c.serve_these.new.seats c.args.sink.now c.serve_these.new.sink c.requires.whole.standing.calls called.len refl
+    called.stay (not_due_listed g.M.Machine.agrees g.M.Machine.wants old c.call_these.new.calls.items c.args.now
+    c.requires.whole called c.requires.some c.requires.early) served among in
+    served_over agrees wants did heard c.args.now old served_inside c.turn_over.new.inside c.args.sink.now
+    c.serve_these.new.sink turns served.turns c.turn_over.ensures
+
+pub returns-in-Ok-clause-whole : goal.returns-in-Ok-clause-whole
+returns-in-Ok-clause-whole g c =
+    let agrees = g.M.Machine.agrees in
+    let wants = g.M.Machine.wants in
+    let did = g.S.NonBlocking.did in
+    let heard = g.K.LineSink.heard in
+    let old = c.args.inside.now in
+    let passed : Seats g.row.M.Denot g.row.S.Denot = record {
+      places = old.seats.places;
+      calls = c.call_these.new.calls;
+      tickets = old.seats.tickets;
+      agenda = old.seats.agenda;
+    } in
+    let called : AreAllCalled old.list.items old.seats.calls.items c.call_these.new.calls.items =
+    subst (λ l. AreAllCalled l old.seats.calls.items c.call_these.new.calls.items) c.as_slice.ensures.value
+    c.call_these.ensures.called in
+    let served : AreServed agrees wants did heard c.args.now old.list.items passed
+    c.serve_these.new.seats c.args.sink.now c.serve_these.new.sink = subst (λ l. AreServed agrees wants did heard
+    c.args.now l passed c.serve_these.new.seats c.args.sink.now c.serve_these.new.sink)
+    c.as_slice-2.ensures.value c.in-Ok.ensures.served in
+    let served_inside : Inside g.row.M.Denot g.row.S.Denot = record {
+      seats = c.serve_these.new.seats;
+      list = old.list;
+      all = old.all;
+      found = old.found;
+      door = old.door;
+      free = old.free;
+    } in
+    let among = among_listed agrees wants did heard old c.call_these.new.calls.items c.args.now c.requires.whole called
+    c.requires.some in
+    whole_served agrees wants old served_inside c.turn_over.new.inside c.requires.whole
+    c.in-Ok.ensures.standing c.in-Ok.ensures.rests c.in-Ok.ensures.taken
+    (none_called agrees wants did heard c.args.now old.list.items passed c.serve_these.new.seats
+    c.args.sink.now c.serve_these.new.sink (called.len ∙ c.requires.whole.standing.calls) served among) refl refl
+    c.turn_over.ensures
+
+pub returns-in-Err-clause-whole : goal.returns-in-Err-clause-whole
+returns-in-Err-clause-whole g c = whole_refused g.M.Machine.agrees g.M.Machine.wants c.args.inside.now _
+    c.serve_these.new.seats c.requires.whole c.in-Err.ensures.standing c.in-Err.ensures.taken refl refl refl refl refl
+    refl refl refl refl
