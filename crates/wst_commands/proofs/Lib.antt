@@ -1,5 +1,6 @@
 -- The lemmas behind the commands: the cases that words stand for, what is delivered, how a verdict is
--- explained, the scripts of all cases and the rules of verdicts, and the first place of a byte.
+-- explained, the scripts of all cases and the rules of verdicts, the first place of a byte,
+-- and the steps of the loops over a damaged line.
 pub mod CaseLemmas
 pub mod Delivering
 pub mod ReadLines
@@ -13,3 +14,4 @@ pub mod RuleTexts
 pub mod PageRecords
 pub mod ShownTexts
 pub mod FirstPlaces
+pub mod StepLoops

@@ -4,16 +4,17 @@ use Rattle.std.specs.List.{concat}
 use Rattle.std.specs.Fmt.{decimal}
 use Rattle.ws_frame.specs.Devices.{Device, IsUntouched}
 use Rattle.wst_commands.specs.Devices.{Tells}
+use Rattle.wst_commands.specs.RunDamages.{known_damage_words, run_damage_words}
 use Rattle.wst_commands.specs.StepDamages.{damage_words}
 use Rattle.wst_commands.specs.declared.exit.Exit.{Exit}
-use Rattle.wst_commands.specs.declared.exit.Exit.TheVariants.{Damaged, Failed, WrongWords}
+use Rattle.wst_commands.specs.declared.exit.Exit.TheVariants.{Damaged, Done, Failed, WrongWords}
 use Rattle.wst_commands.specs.declared.fault.Fault.{Fault}
-use Rattle.wst_commands.specs.declared.fault.Fault.TheVariants.{BadLimits, BadProtocols, BadTimeout, HeadIsCut}
+use Rattle.wst_commands.specs.declared.fault.Fault.TheVariants.{BadLimits, BadProtocols, BadTimeout, CaptureOfClient}
 use Rattle.wst_commands.specs.declared.fault.Fault.TheVariants.{NotACall, NotACapture, NotAMove, NotAStep, NotAVerdict}
-use Rattle.wst_commands.specs.declared.fault.Fault.TheVariants.{NotListening, StreamWithCapture}
+use Rattle.wst_commands.specs.declared.fault.Fault.TheVariants.{NotAResult, NotListening, StreamWithCapture}
 use Rattle.wst_commands.specs.declared.fault.Fault.TheVariants.{NoText, NoTask, NoMemory, RoleWithoutCapture}
-use Rattle.wst_commands.specs.declared.fault.Fault.TheVariants.{JunitWithJson, JunitWithSummary, NotAName}
-use Rattle.wst_commands.specs.declared.fault.Fault.TheVariants.{SummaryWithJson, TimeoutWithUnit}
+use Rattle.wst_commands.specs.declared.fault.Fault.TheVariants.{JunitWithJson, JunitWithSummary, NoCaseLine, NotAName}
+use Rattle.wst_commands.specs.declared.fault.Fault.TheVariants.{HeadIsCut, SummaryWithJson, TimeoutWithUnit}
 use Rattle.wst_commands.specs.declared.fault.ListenFault.{ListenFault}
 use Rattle.wst_commands.specs.declared.fault.ListenFault.TheVariants as why
 
@@ -30,9 +31,10 @@ abbrev pub TellsLine : ℕ → List ℕ → Exit → Device → Type 0
 TellsLine number what exit faults =
     ((exit ≡ Damaged) × Tells (damage_line number what) faults) ⊎ LacksMemory exit faults
 
--- the line that tells why nothing can be listened at
+-- the line that tells why nothing can be listened at, and below it which address is wanted where it is none
 abbrev pub not_listening_line : ListenFault → List ℕ
-not_listening_line why.NoSuchHost = codes "not listening: no such host\n"
+not_listening_line why.NoSuchHost =
+    codes "not listening: no such host\n  HOST:PORT to listen at, up to 65535: localhost:9001\n"
 not_listening_line why.AddressInUse = codes "not listening: address in use\n"
 not_listening_line why.NotPermitted = codes "not listening: not permitted\n"
 not_listening_line why.Failed = codes "not listening: failed\n"
@@ -56,8 +58,13 @@ TellsFault (NotAMove number) exit faults = TellsLine number (codes "not a move")
 TellsFault (NotACall number) exit faults = TellsLine number (codes "not a call") exit faults
 TellsFault (NotACapture number) exit faults = TellsLine number (codes "not a capture") exit faults
 TellsFault (NotAStep number damage) exit faults = TellsLine number (damage_words damage) exit faults
-TellsFault (NotAVerdict number) exit faults = TellsLine number (codes "not a verdict") exit faults
+TellsFault (NotAVerdict number damage) exit faults = TellsLine number (known_damage_words damage) exit faults
+TellsFault (NotAResult number damage) exit faults = TellsLine number (run_damage_words damage) exit faults
 TellsFault (NotAName number) exit faults = TellsLine number (codes "not a name") exit faults
+TellsFault NoCaseLine exit faults =
+    (exit ≡ Done) × Tells (codes "no line of a case: report reads what wst test printed\n") faults
+TellsFault CaptureOfClient exit faults = (exit ≡ Damaged)
+    × Tells (codes "the received frames are masked as a client's: to judge a client, add --role client\n") faults
 TellsFault NoText exit faults = (exit ≡ WrongWords) × Tells (codes "error: the arguments are not UTF-8\n") faults
 TellsFault NoTask exit faults = (exit ≡ WrongWords) × Tells (codes "error: the arguments ask for nothing\n") faults
 TellsFault (NotListening why) exit faults = (exit ≡ Failed) × Tells (not_listening_line why) faults

@@ -4,13 +4,14 @@ use Rattle.std.specs.Prelude.{◌≡◌, ◌≢◌, ◌⊎◌, ⊤, ℕ, ◌-◌
 use Rattle.std.specs.Prelude.{if◌then◌else◌, List, [], ◌∷◌, ◌++◌, codes, filter, flat_map, length, map}
 use Rattle.std.specs.Prelude.{slice_index, string_bytes, take}
 use Rattle.std.specs.Borrow.{Bor}
-use Rattle.std.specs.List.{All, Contains, concat, starts_with}
+use Rattle.std.specs.List.{All, Contains, concat, list_any, starts_with}
 use Rattle.ws_frame.specs.Devices.{Device}
 use Rattle.ws_scripts.specs.CaseNames.{case_names}
 use Rattle.ws_scripts.specs.Scripts.{CanBeRun}
 use Rattle.ws_scripts.specs.declared.script.Case.{Case}
 use Rattle.wst_commands.specs.Devices.{Tells}
 use Rattle.wst_commands.specs.Faults.{LacksMemory}
+use Rattle.wst_commands.specs.ShownWords.{shown_word}
 use Rattle.wst_commands.specs.declared.exit.Exit.{Exit}
 use Rattle.wst_commands.specs.declared.exit.Exit.TheVariants.{WrongWords}
 use Rattle.wst_commands.specs.declared.given_cases.NoCases.{NoCases}
@@ -74,10 +75,20 @@ LackCases words NoMemory = ⊤
 
 -- ---- what is told
 
--- the lines that tell that there is no such case, and how to find one
+-- a byte of addresses and paths that no name of a case has: a colon, or a slash
+abbrev pub is_address_byte : ℕ → Bool
+is_address_byte byte = byte == 58 || byte == 47
+
+-- what to type instead: a word with such a byte may be a target, and stand behind its place
+abbrev pub case_advice : List ℕ → List ℕ
+case_advice id =
+    if list_any is_address_byte id
+    then codes "TARGET comes before IDs, and --known reads stdin: wst test --known TARGET '2.*' < known.txt"
+    else codes "wst cases lists them; a star stands for a group: '2.*'"
+
+-- the lines that tell that there is no such case, and what to type instead
 abbrev pub no_case_line : List ℕ → List ℕ
-no_case_line id = concat (codes "no such case: " ∷ id
-    ∷ codes "\n  wst cases lists them; a star stands for a group: '2.*'\n" ∷ [])
+no_case_line id = concat (codes "no such case: " ∷ shown_word id ∷ codes "\n  " ∷ case_advice id ∷ codes "\n" ∷ [])
 
 -- what is told where there are no cases for the words, and the exit
 abbrev pub TellsNoCases : NoCases → Exit → Device → Type 0

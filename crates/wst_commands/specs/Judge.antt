@@ -1,6 +1,6 @@
 -- A run of `judge`: a capture is read whole and judged, and the verdict is written.
-use Rattle.std.specs.Prelude.{◌≡◌, ◌⊎◌, ℕ, List, ◌++◌, Option, Some, None, Result, Err, MatchResult, codes}
-use Rattle.std.specs.Prelude.{if◌then◌else◌}
+use Rattle.std.specs.Prelude.{◌≡◌, ◌⊎◌, ℕ, nat_lt, Bool, false, ◌&&◌, List, [], ◌∷◌, ◌++◌, Option, Some, None}
+use Rattle.std.specs.Prelude.{Result, Ok, Err, MatchResult, codes, if◌then◌else◌}
 use Rattle.ws_frame.specs.Devices.{Device, IsUntouched}
 use Rattle.ws_frame.specs.declared.source.DataStyle.{DataStyle}
 use Rattle.ws_scripts.specs.Captures.{DamagesCapture}
@@ -8,11 +8,13 @@ use Rattle.ws_scripts.specs.Captures2.{IsAnyCaptureOf}
 use Rattle.ws_suite.specs.Protocol.{IsVerdictBy}
 use Rattle.ws_scripts.specs.declared.expectation.Expectation.{Expectation}
 use Rattle.ws_wire.specs.declared.role.Role.{Role}
+use Rattle.ws_wire.specs.declared.role.Role.TheVariants.{Client, Server}
 use Rattle.ws_suite.specs.Words.{verdict_words}
 use Rattle.ws_scripts.specs.declared.capture.Capture.{Capture}
 use Rattle.ws_scripts.specs.declared.capture.CaptureFault.{CaptureFault}
 use Rattle.ws_scripts.specs.declared.capture.CaptureFault.TheVariants as capture
 use Rattle.ws_scripts.specs.declared.transcript.Transcript.{Transcript}
+use Rattle.ws_scripts.specs.declared.transcript.Turn.{Turn}
 use Rattle.ws_suite.specs.declared.verdict.Verdict.{Verdict}
 use Rattle.ws_suite.specs.declared.verdict.Verdict.TheVariants.{Fail, Loose, Pass}
 use Rattle.wst_words.specs.declared.judge.JudgeOptions.{JudgeOptions}
@@ -20,9 +22,9 @@ use Rattle.wst_commands.specs.Devices.{Delivers}
 use Rattle.wst_commands.specs.Explaining.{StandsBelow}
 use Rattle.wst_commands.specs.ReadingWhole.{AnswersInput}
 use Rattle.wst_commands.specs.declared.exit.Exit.{Exit}
-use Rattle.wst_commands.specs.declared.exit.Exit.TheVariants.{Damaged, Done}
+use Rattle.wst_commands.specs.declared.exit.Exit.TheVariants.{Damaged, Done, Failed, WrongWords}
 use Rattle.wst_commands.specs.declared.fault.Fault.{Fault}
-use Rattle.wst_commands.specs.declared.fault.Fault.TheVariants.{NotACapture, NoMemory}
+use Rattle.wst_commands.specs.declared.fault.Fault.TheVariants.{CaptureOfClient, NotACapture, NoMemory}
 
 -- the verdict in its line
 abbrev pub verdict_line : Verdict → List ℕ
@@ -40,12 +42,50 @@ explained_in options = if options.explain then Some options.style else None
 
 -- the verdict on the tested end by the transcript was written, and below it why it is told where that is asked for; or
 -- memory ran out, and nothing was written
-abbrev pub TellsVerdict : JudgeOptions → Transcript → Result Exit Fault → Device → Type 0
-TellsVerdict options transcript ended output = MatchResult ended
+abbrev pub WritesVerdict : JudgeOptions → Transcript → Result Exit Fault → Device → Type 0
+WritesVerdict options transcript ended output = MatchResult ended
     (λ exit. (verdict : Verdict) × (below : List ℕ) × IsVerdictBy options.expect options.role transcript verdict
     × StandsBelow (explained_in options) options.role options.expect transcript verdict below
     × Delivers (exit_of verdict) (verdict_line verdict ++ below) exit output)
     (λ fault. (fault ≡ NoMemory) × IsUntouched output)
+
+-- a frame begins here, and its header says that it is masked
+abbrev pub begins_masked : List ℕ → Bool
+begins_masked (first ∷ second ∷ rest) = nat_lt 127 second
+begins_masked _ = false
+
+-- or that it is not
+abbrev pub begins_unmasked : List ℕ → Bool
+begins_unmasked (first ∷ second ∷ rest) = nat_lt second 128
+begins_unmasked _ = false
+
+-- the tested end masked its first frame in a turn, as only a client does, and the tester didn't
+abbrev pub is_turn_of_client : Turn → Bool
+is_turn_of_client turn = begins_masked turn.got && begins_unmasked turn.sent
+
+-- so it is in the first turn
+abbrev pub is_of_client : List Turn → Bool
+is_of_client [] = false
+is_of_client (turn ∷ turns) = is_turn_of_client turn
+
+-- how a run ends that has written a Fail of this end: of a server whose frames are those of a client a hint says so
+abbrev pub failed_verdict : Role → Transcript → Result Exit Fault
+failed_verdict Client transcript = Ok Damaged
+failed_verdict Server transcript = if is_of_client transcript.turns then Err CaptureOfClient else Ok Damaged
+
+-- the same by the exit of what was written
+abbrev pub ended_verdict : Role → Transcript → Exit → Result Exit Fault
+ended_verdict tested transcript Damaged = failed_verdict tested transcript
+ended_verdict tested transcript Done = Ok Done
+ended_verdict tested transcript WrongWords = Ok WrongWords
+ended_verdict tested transcript Failed = Ok Failed
+
+-- the verdict was written so, and the run ended by that; or memory ran out, and nothing was written
+abbrev pub TellsVerdict : JudgeOptions → Transcript → Result Exit Fault → Device → Type 0
+TellsVerdict options transcript ended output =
+    ((exit : Exit) × WritesVerdict options transcript (Ok exit) output
+    × (ended ≡ ended_verdict options.role transcript exit))
+    ⊎ ((ended ≡ Err NoMemory) × IsUntouched output)
 
 -- inside: the same by what is asked for
 abbrev pub TellsVerdictWith : Option DataStyle → Role → Expectation → Transcript → Result Exit Fault → Device → Type 0

@@ -1,6 +1,9 @@
 pub mod Exits
 pub mod Devices
+pub mod StepTexts
+pub mod StepWords
 pub mod StepDamages
+pub mod RunDamages
 pub mod CloseCodes
 pub mod Faults
 pub mod Limits
@@ -18,6 +21,7 @@ pub mod Judge
 pub mod Convert
 pub mod PageTexts
 pub mod Report
+pub mod ShownWords
 pub mod GivenCases
 pub mod Cases
 pub mod InnerExplaining

@@ -1,7 +1,7 @@
 -- A run of `report`: the lines of runs are read whole, and a page, an index, a summary or a JUnit document of them is
 -- written.
-use Rattle.std.specs.Prelude.{◌≡◌, ◌⊎◌, ℕ, Bool, true, false, List, [], Option, Some, None, Result, Ok, Err}
-use Rattle.std.specs.Prelude.{MatchResult, String, map, string_bytes, if◌then◌else◌}
+use Rattle.std.specs.Prelude.{◌≡◌, ◌⊎◌, ℕ, Bool, true, false, List, [], ◌∷◌, Option, Some, None, Result, Ok}
+use Rattle.std.specs.Prelude.{Err, String, map, string_bytes, if◌then◌else◌}
 use Rattle.std.specs.Borrow.{Bor}
 use Rattle.std.specs.declared.alloc.Global.{Global}
 use Rattle.ws_base.specs.declared.text_fault.TextFault.{TextFault}
@@ -18,8 +18,9 @@ use Rattle.ws_runs.specs.Summary.{runs_summary}
 use Rattle.wst_commands.specs.Devices.{Delivers}
 use Rattle.wst_commands.specs.PageTexts.{IsPageWithTexts}
 use Rattle.wst_commands.specs.ReadingWhole.{AnswersInput}
+use Rattle.wst_commands.specs.RunDamages.{run_damage}
 use Rattle.wst_commands.specs.declared.exit.Exit.{Exit}
-use Rattle.wst_commands.specs.declared.exit.Exit.TheVariants.{Done}
+use Rattle.wst_commands.specs.declared.exit.Exit.TheVariants.{Damaged, Done, Failed, WrongWords}
 use Rattle.wst_commands.specs.declared.fault.Fault.{Fault}
 use Rattle.wst_commands.specs.declared.fault.Fault.TheVariants as fault
 use Rattle.wst_commands.specs.declared.report.ReportKind.{ReportKind}
@@ -61,16 +62,29 @@ IsRunReport Index date runs report = report ≡ index_json runs
 IsRunReport Summary date runs report = report ≡ runs_summary listed_names runs
 IsRunReport Junit date runs report = IsListedDocument runs report
 
+-- how a run ends that has written its report: where that is of no case, a hint says so
+abbrev pub ended_without_case : Exit → Result Exit Fault
+ended_without_case Done = Err fault.NoCaseLine
+ended_without_case Damaged = Ok Damaged
+ended_without_case WrongWords = Ok WrongWords
+ended_without_case Failed = Ok Failed
+
+abbrev pub ended_report : List (List ℕ) → Exit → Result Exit Fault
+ended_report [] exit = ended_without_case exit
+ended_report (id ∷ ids) exit = Ok exit
+
 -- it was written; or memory ran out, and nothing was written
 abbrev pub ReportsRuns : ReportKind → List ℕ → RunsValue → Result Exit Fault → Device → Type 0
-ReportsRuns kind date runs ended output = MatchResult ended
-    (λ exit. (report : List ℕ) × IsRunReport kind date runs report × Delivers Done report exit output)
-    (λ why. (why ≡ fault.NoMemory) × IsUntouched output)
+ReportsRuns kind date runs ended output =
+    ((report : List ℕ) × (exit : Exit) × IsRunReport kind date runs report × Delivers Done report exit output
+    × (ended ≡ ended_report runs.ids exit))
+    ⊎ ((ended ≡ Err fault.NoMemory) × IsUntouched output)
 
 -- what is printed for a text that isn't the lines of runs: its first line that is none has a name that isn't UTF-8, or
 -- it tells no verdict
 abbrev pub run_fault : List ℕ → TextFault → Fault
-run_fault bytes (text.Damaged line) = if is_name_line line bytes then fault.NotAName line else fault.NotAVerdict line
+run_fault bytes (text.Damaged line) =
+    if is_name_line line bytes then fault.NotAName line else fault.NotAResult line (run_damage bytes line)
 run_fault bytes text.NoMemory = fault.NoMemory
 
 -- what is done with a text: if it is the lines of runs, a report on them is written; else nothing is written, and the

@@ -8,6 +8,8 @@ use Rattle.ws_frame.specs.declared.source.DataStyle.{DataStyle}
 use Rattle.ws_frame.specs.declared.source.Source.{Source}
 use Rattle.ws_frame.specs.declared.showing.ShowEnd.{ShowEnd}
 use Rattle.ws_frame.specs.declared.showing.ShowEnd.TheVariants as end
+use Rattle.ws_faults.specs.declared.marking.MarkedFrames.{MarkedFrames}
+use Rattle.ws_faults.specs.PayloadFaults.{AreMarkedFrames}
 use Rattle.ws_lines.specs.declared.transcript_lines.Showing.{Showing}
 use Rattle.ws_lines.specs.Telling.{HasBegunLines, HasWrittenLines}
 use Rattle.ws_lines.specs.TurnLines.{FitsPlaces}
@@ -80,17 +82,30 @@ TellsLines showing transcript ended output =
     × HasBegunLines showing transcript output)
     ⊎ ((ended ≡ Err NoMemory) × ¬ (FitsPlaces transcript.turns) × IsUntouched output)
 
+-- how a transcript is shown, with these frames marked
+abbrev pub marked_showing : Role → DataStyle → MarkedFrames → Showing
+marked_showing tested style marked =
+    record { tested = tested; style = style; sent_fault = marked.sent; got_fault = marked.got }
+
+-- The lines of the transcript are told so, with the frame of either direction marked whose payload is its first fault;
+-- or memory ran out before that was known, and nothing is written.
+abbrev pub TellsMarked : Role → DataStyle → Transcript → Result Exit Fault → Device → Type 0
+TellsMarked tested style transcript ended output =
+    ((marked : MarkedFrames) × AreMarkedFrames tested transcript marked
+    × TellsLines (marked_showing tested style marked) transcript ended output)
+    ⊎ ((ended ≡ Err NoMemory) × IsUntouched output)
+
 -- what is done with a text: as a capture, in either format, its lines are written; else nothing is written, and what is
 -- wrong is told
-abbrev pub AnswersShownCapture : Showing → List ℕ → Result Exit Fault → Device → Type 0
-AnswersShownCapture showing text ended output =
-    ((capture : Capture) × IsAnyCaptureOf capture text × TellsLines showing capture.transcript ended output)
+abbrev pub AnswersShownCapture : Role → DataStyle → List ℕ → Result Exit Fault → Device → Type 0
+AnswersShownCapture tested style text ended output =
+    ((capture : Capture) × IsAnyCaptureOf capture text × TellsMarked tested style capture.transcript ended output)
     ⊎ ((fault : CaptureFault) × DamagesCapture IsAnyCaptureOf fault text × (ended ≡ Err (capture_fault fault))
     × IsUntouched output)
 
 -- a capture is read whole
-abbrev pub ShowsCapture : Showing → Result Exit Fault → Device → Device → Type 0
-ShowsCapture showing ended input output = AnswersInput (AnswersShownCapture showing) ended input output
+abbrev pub ShowsCapture : Role → DataStyle → Result Exit Fault → Device → Device → Type 0
+ShowsCapture tested style ended input output = AnswersInput (AnswersShownCapture tested style) ended input output
 
 -- ---- a run
 
@@ -100,7 +115,7 @@ abbrev pub CarriesOutShow : DataStyle → Result ShowPlan Fault → Result Exit 
 CarriesOutShow style (Ok (Stream from budget)) ended input output =
     ShowsStream (alone from style) budget ended input output
 CarriesOutShow style (Ok (OfCapture tested)) ended input output =
-    ShowsCapture (record { tested = tested; style = style }) ended input output
+    ShowsCapture tested style ended input output
 CarriesOutShow style (Err fault) ended input output = (ended ≡ Err fault) × IsUntouched input × IsUntouched output
 
 abbrev pub RunsShow : ShowOptions → Result Exit Fault → Device → Device → Type 0

@@ -1,16 +1,19 @@
 -- What is wrong with a line that is no step, where that is known to be typed often, and what is told of it.
-use Rattle.std.specs.Prelude.{◌≡◌, ℕ, zero, suc, ◌+◌, ◌-◌, ◌==◌, nat_eq, nat_lt, Bool, false, true}
-use Rattle.std.specs.Prelude.{not, ◌||◌, ◌&&◌, if◌then◌else◌}
-use Rattle.std.specs.Prelude.{List, [], ◌∷◌, drop, take, position, codes, Option, Some, None, MatchOption}
+use Rattle.std.specs.Prelude.{◌≡◌, ℕ, zero, suc, ◌+◌, ◌-◌, ◌==◌, nat_eq, Bool, false, not, ◌||◌, ◌&&◌, if◌then◌else◌}
+use Rattle.std.specs.Prelude.{List, [], ◌∷◌, ◌++◌, drop, take, position, codes, Option, Some, None, MatchOption}
 use Rattle.std.specs.Borrow.{Bor}
 use Rattle.std.specs.List.{ends_with, list_all, list_any, starts_with}
-use Rattle.std.specs.Char.{is_ascii_control, is_ascii_hexdigit, is_ascii_uppercase}
-use Rattle.std.specs.Str.{bytes_eq, is_utf8}
+use Rattle.std.specs.Str.{bytes_eq}
 use Rattle.ws_formats.specs.Words.{words_of}
+use Rattle.wst_commands.specs.StepTexts.{text_damage}
+use Rattle.wst_commands.specs.StepWords.{descend, is_disordered, named_damage, word_damage_words}
 use Rattle.wst_commands.specs.declared.step_damages.StepDamage.{StepDamage}
-use Rattle.wst_commands.specs.declared.step_damages.StepDamage.TheVariants.{EndsInCr, Escape, Order, Other, Quotes}
-use Rattle.wst_commands.specs.declared.step_damages.StepDamage.TheVariants.{NoPayload, Unended, Unprintable}
-use Rattle.wst_commands.specs.declared.step_damages.StepDamage.TheVariants.{Capitals, Kind, Reserved, Unquoted}
+use Rattle.wst_commands.specs.declared.step_damages.StepDamage.TheVariants.{AfterText, Chop, Comment, EndsInCr, Order}
+use Rattle.wst_commands.specs.declared.step_damages.StepDamage.TheVariants.{Other, Quotes, Spaces, Unended, Wait}
+use Rattle.wst_commands.specs.declared.step_damages.StepDamage.TheVariants.{InText, InWords}
+use Rattle.wst_commands.specs.declared.step_texts.TextDamage.{TextDamage}
+use Rattle.wst_commands.specs.declared.step_texts.TextDamage.TheVariants.{Escape, Half, Unprintable}
+use Rattle.wst_commands.specs.declared.step_words.WordDamage.{WordDamage}
 
 -- ---- cutting
 
@@ -38,131 +41,81 @@ abbrev pub behind_lines : ℕ → List ℕ → List ℕ
 behind_lines zero text = text
 behind_lines (suc count) text = behind_cut (cut_of 10 (behind_lines count text))
 
--- ---- what is wrong with a line
+-- ---- how the words stand
 
--- where a word stands among those behind the name of a frame: its fields in their order, and then its data
-abbrev pub field_rank : List ℕ → ℕ
-field_rank word =
-    if starts_with nat_eq word (codes "fin=") then 1
-    else (if starts_with nat_eq word (codes "rsv=") then 2
-    else (if starts_with nat_eq word (codes "key=") then 3
-    else (if starts_with nat_eq word (codes "form=") then 4 else 5)))
+-- a comment behind a step
+abbrev pub is_comment : List ℕ → Bool
+is_comment word = starts_with nat_eq word (codes "#")
 
--- one of the words stands behind one that is to follow it
-abbrev pub descend : ℕ → List (List ℕ) → Bool
-descend last [] = false
-descend last (word ∷ words) = nat_lt (field_rank word) last || descend (field_rank word) words
+abbrev pub has_tab : List ℕ → Bool
+has_tab word = list_any (λ (byte : ℕ). byte == 9) word
 
--- the names of frames of which the payload is written: all but those of reserved opcodes
-abbrev pub is_frame_name : List ℕ → Bool
-is_frame_name name = bytes_eq name (codes "text") || (bytes_eq name (codes "binary")
-    || (bytes_eq name (codes "cont") || (bytes_eq name (codes "close")
-    || (bytes_eq name (codes "ping") || bytes_eq name (codes "pong")))))
+-- nothing between two spaces, or at an end; or a tab
+abbrev pub is_misspaced : List ℕ → Bool
+is_misspaced word = bytes_eq word [] || has_tab word
 
--- all words behind the name are fields, and none is a payload
-abbrev pub are_fields : List (List ℕ) → Bool
-are_fields words = list_all (λ word. nat_lt (field_rank word) 5) words
+-- a line by its first word and the others: `wait` and `chop` take no fields, and the others of a frame have their order
+abbrev pub order_damage : List (List ℕ) → Option StepDamage
+order_damage [] = None
+order_damage (name ∷ fields) =
+    if bytes_eq name (codes "wait") then Some Wait
+    else (if bytes_eq name (codes "chop") then Some Chop
+    else (if is_disordered fields then Some Order else None))
 
--- the names of reserved opcodes
-abbrev pub is_reserved_name : List ℕ → Bool
-is_reserved_name name = bytes_eq name (codes "op3") || (bytes_eq name (codes "op4") || (bytes_eq name (codes "op5")
-    || (bytes_eq name (codes "op6") || (bytes_eq name (codes "op7") || (bytes_eq name (codes "op11")
-    || (bytes_eq name (codes "op12") || (bytes_eq name (codes "op13") || (bytes_eq name (codes "op14")
-    || bytes_eq name (codes "op15")))))))))
+-- how the words of a line stand: a comment behind a step; a space too many, or a tab; or another order
+abbrev pub layout_damage : List (List ℕ) → Option StepDamage
+layout_damage words =
+    if list_any is_comment words then Some Comment
+    else (if list_any is_misspaced words then Some Spaces else order_damage words)
 
--- a line that is no comment begins with one of these words
-abbrev pub is_first_word : List ℕ → Bool
-is_first_word word = is_frame_name word || (is_reserved_name word || (starts_with nat_eq word (codes "close=")
-    || (bytes_eq word (codes "raw") || (bytes_eq word (codes "wait") || bytes_eq word (codes "chop")))))
+-- ---- a line without quotes
 
--- a field of the reserved bits
-abbrev pub is_right_rsv : List ℕ → Bool
-is_right_rsv word = bytes_eq word (codes "rsv=0") || (bytes_eq word (codes "rsv=1") || (bytes_eq word (codes "rsv=2")
-    || (bytes_eq word (codes "rsv=3") || (bytes_eq word (codes "rsv=4") || (bytes_eq word (codes "rsv=5")
-    || (bytes_eq word (codes "rsv=6") || bytes_eq word (codes "rsv=7")))))))
+abbrev pub found_in_words : Option WordDamage → StepDamage
+found_in_words None = Other
+found_in_words (Some damage) = InWords damage
 
--- one whose number is none, or above 7
-abbrev pub is_wrong_rsv : List ℕ → Bool
-is_wrong_rsv word = starts_with nat_eq word (codes "rsv=") && not (is_right_rsv word)
-
--- hexadecimal digits, of which some are capital
-abbrev pub has_capitals : List ℕ → Bool
-has_capitals word = list_all is_ascii_hexdigit word && list_any is_ascii_uppercase word
-
--- a byte of no data without quotes, which are digits, a star, or a dash
-abbrev pub is_no_data : ℕ → Bool
-is_no_data byte = not (is_ascii_hexdigit byte || (byte == 42 || byte == 45))
-
--- no field, and no data without quotes
-abbrev pub is_unquoted : List ℕ → Bool
-is_unquoted word = not (list_any (λ (byte : ℕ). byte == 61) word) && list_any is_no_data word
-
--- this, or that the word lacks its quotes, where it may be a text
-abbrev pub or_unquoted : Bool → StepDamage → List ℕ → StepDamage
-or_unquoted may_be_text other word = if may_be_text && is_unquoted word then Unquoted else other
-
--- the first word whose digits are wrong, or else this, or that a word behind lacks its quotes
-abbrev pub word_damage : Bool → StepDamage → List (List ℕ) → StepDamage
-word_damage may_be_text other [] = other
-word_damage may_be_text other (word ∷ words) =
-    if is_wrong_rsv word then Reserved
-    else (if has_capitals word then Capitals
-    else word_damage may_be_text (or_unquoted may_be_text other word) words)
-
--- the words of a line, of which none stands behind one that is to follow it
-abbrev pub ordered_damage : List ℕ → List (List ℕ) → StepDamage
-ordered_damage name fields =
-    if is_frame_name name && are_fields fields then NoPayload
-    else (if is_first_word name then word_damage (is_frame_name name) Other fields else Kind)
-
--- the words of a line: the name of the frame, and then its fields and its data
+-- a line by its words, which stand as they should
 abbrev pub words_damage : List (List ℕ) → StepDamage
 words_damage [] = Other
-words_damage (name ∷ fields) = if descend 0 fields then Order else ordered_damage name fields
+words_damage (name ∷ fields) = found_in_words (named_damage name fields)
 
--- a line without quotes
-abbrev pub order_damage : List ℕ → StepDamage
-order_damage line = words_damage (words_of line)
+-- this, or else that
+abbrev pub damage_or : Option StepDamage → StepDamage → StepDamage
+damage_or (Some damage) second = damage
+damage_or None second = second
 
--- what stands behind the second quote of a text: no field, which is to stand before the text
+abbrev pub plain_damage : List (List ℕ) → StepDamage
+plain_damage words = damage_or (layout_damage words) (words_damage words)
+
+-- ---- a line with quotes
+
+-- the bytes in front of a quote end without a space
+abbrev pub is_glued : List ℕ → Bool
+is_glued [] = false
+is_glued (byte ∷ bytes) = not (ends_with nat_eq (byte ∷ bytes) (32 ∷ []))
+
+abbrev pub text_or : Option TextDamage → StepDamage → StepDamage
+text_or (Some damage) second = InText damage
+text_or None second = second
+
+-- a line that ends with this text, by its words with a dash in the place of the text: how they stand comes first, and
+-- the text before each word alone
+abbrev pub texts_damage : List ℕ → List (List ℕ) → StepDamage
+texts_damage text words = damage_or (layout_damage words) (text_or (text_damage text) (words_damage words))
+
+abbrev pub text_line_damage : List ℕ → List ℕ → StepDamage
+text_line_damage front text = if is_glued front then Spaces else texts_damage text (words_of (front ++ codes "-"))
+
+-- nothing but tabs
+abbrev pub is_blank_word : List ℕ → Bool
+is_blank_word word = list_all (λ (byte : ℕ). byte == 9) word
+
+-- what stands behind the second quote of a text: a comment; spaces; a field, which is to stand before the text; or more
 abbrev pub behind_damage : List (List ℕ) → StepDamage
-behind_damage words = if descend 5 words then Order else Other
-
--- what no text has between its quotes: bytes that aren't UTF-8, or a control character of ASCII
-abbrev pub is_unprintable : List ℕ → Bool
-is_unprintable text = if is_utf8 text then list_any is_ascii_control text else true
-
--- what may follow a backslash: a quote, a backslash, `/`, `b`, `f`, `n`, `r`, `t` or `u`
-abbrev pub is_escape_letter : ℕ → Bool
-is_escape_letter byte = byte == 34 || (byte == 92 || (byte == 47 || (byte == 98 || (byte == 102 || (byte == 110
-    || (byte == 114 || (byte == 116 || byte == 117)))))))
-
--- something else follows a backslash that no backslash escapes
-abbrev pub has_wrong_escape : List ℕ → Bool
-has_wrong_escape [] = false
-has_wrong_escape (byte ∷ []) = false
-has_wrong_escape (byte ∷ next ∷ rest) =
-    if byte == 92 then not (is_escape_letter next) || has_wrong_escape rest else has_wrong_escape (next ∷ rest)
-
--- what may be wrong with a text itself, or else this
-abbrev pub text_fault : List ℕ → StepDamage → StepDamage
-text_fault text other = if is_unprintable text then Unprintable else (if has_wrong_escape text then Escape else other)
-
--- a line that ends with this text, before which this is wrong: where that is nothing else (the payload is the text),
--- the text may be it
-abbrev pub inner_damage : List ℕ → StepDamage → StepDamage
-inner_damage text Other = text_fault text Other
-inner_damage text NoPayload = text_fault text Other
-inner_damage text Unquoted = text_fault text Other
-inner_damage text Kind = text_fault text Kind
-inner_damage text Reserved = text_fault text Reserved
-inner_damage text Capitals = text_fault text Capitals
-inner_damage text Unended = Unended
-inner_damage text EndsInCr = EndsInCr
-inner_damage text Quotes = Quotes
-inner_damage text Order = Order
-inner_damage text Unprintable = Unprintable
-inner_damage text Escape = Escape
+behind_damage words =
+    if list_any is_comment words then Comment
+    else (if list_all is_blank_word words then Spaces
+    else (if descend 5 words then Order else AfterText))
 
 -- a byte, which a backslash escapes or none, escapes the next one
 abbrev pub escapes : Bool → ℕ → Bool
@@ -183,25 +136,25 @@ CutsAtQuote bytes result = MatchOption result (cut_by (closing_quote bytes) byte
     (λ parts. cut_by (closing_quote bytes) bytes ≡ Some (parts.0.now, parts.1.now))
 
 -- what stands behind the second quote: no quote, and nothing else
-abbrev pub text_damage : List ℕ → Option (List ℕ × List ℕ) → StepDamage
-text_damage front None = Quotes
-text_damage front (Some (text, [])) = inner_damage text (order_damage front)
-text_damage front (Some (_, byte ∷ behind)) =
+abbrev pub cut_text_damage : List ℕ → Option (List ℕ × List ℕ) → StepDamage
+cut_text_damage front None = Quotes
+cut_text_damage front (Some (text, [])) = text_line_damage front text
+cut_text_damage front (Some (_, byte ∷ behind)) =
     if list_any (λ other. other == 34) (byte ∷ behind) then Quotes else behind_damage (words_of (byte ∷ behind))
 
 -- a line of which this stands before its first quote, and this behind it
 abbrev pub quoted_damage : List ℕ → List ℕ → StepDamage
-quoted_damage front rest = text_damage front (cut_by (closing_quote rest) rest)
+quoted_damage front rest = cut_text_damage front (cut_by (closing_quote rest) rest)
+
+-- ---- a line
 
 -- a line that is cut so at its first quote
 abbrev pub cut_damage : List ℕ → Option (List ℕ × List ℕ) → StepDamage
-cut_damage line None = order_damage line
+cut_damage line None = plain_damage (words_of line)
 cut_damage line (Some parts) = quoted_damage parts.0 parts.1
 
--- a line that has an LF: it ends in CR; or else it has quotes, but not two that no backslash escapes; or else its
--- fields stand in another order, or one of them behind its data; or else its text is no UTF-8, has a control character
--- or a wrong escape, or it names a frame and has no payload; or else it begins with no word that a line begins with, or
--- one of its words is wrong
+-- a line that has an LF: it ends in CR; or else it has quotes, but not two that no backslash escapes; or else its words
+-- don't stand as they should; or else its text stands for no bytes; or else one of its words is wrong
 abbrev pub line_damage : List ℕ → StepDamage
 line_damage line = if ends_with nat_eq line (13 ∷ []) then EndsInCr else cut_damage line (cut_of 34 line)
 
@@ -216,19 +169,23 @@ step_damage text number = ended_damage (cut_of 10 (behind_lines (number - 1) tex
 
 -- ---- what is told
 
+abbrev pub text_damage_words : TextDamage → List ℕ
+text_damage_words Unprintable =
+    codes "not a step\n  a text is UTF-8 without control characters, other bytes are hex: text ff"
+text_damage_words Escape =
+    codes "not a step\n  an escape is \\\" \\\\ \\/ \\b \\f \\n \\r \\t or \\uXXXX: text \"C:\\\\temp\""
+text_damage_words Half = codes "not a step\n  half of a pair has no other half: text \"\\ud83d\\ude00\""
+
 abbrev pub damage_words : StepDamage → List ℕ
 damage_words Unended = codes "not a step\n  end the last line with a line feed too"
 damage_words EndsInCr = codes "not a step\n  end lines with LF alone, not with CR LF: tr -d '\\r'"
 damage_words Quotes = codes "not a step\n  a text has a quote at each end, and \\\" between: text \"say \\\"hi\\\"\""
+damage_words AfterText = codes "not a step\n  the second quote ends the line: text \"hi\""
+damage_words Comment = codes "not a step\n  a comment has a line of its own, from its first byte on"
+damage_words Spaces = codes "not a step\n  one space between words and before a quote, none at the ends, no tab"
+damage_words Wait = codes "not a step\n  wait stands alone, --timeout says how long"
+damage_words Chop = codes "not a step\n  chop whole, chop frames or chop octets N, once, before all steps"
 damage_words Order = codes "not a step\n  the order is KIND fin= rsv= key= form= DATA"
-damage_words Unprintable =
-    codes "not a step\n  a text is UTF-8 without control characters, other bytes are hex: text ff"
-damage_words Escape =
-    codes "not a step\n  an escape is \\\" \\\\ \\/ \\b \\f \\n \\r \\t or \\uXXXX: text \"C:\\\\temp\""
-damage_words NoPayload = codes "not a step\n  the payload stands last, - is an empty one: ping -"
-damage_words Kind =
-    codes "not a step\n  a step begins with text, binary, cont, ping, pong, close, raw, wait or opN"
-damage_words Reserved = codes "not a step\n  rsv is 0 to 7, as 4*RSV1 + 2*RSV2 + RSV3: text rsv=4 -"
-damage_words Capitals = codes "not a step\n  hexadecimal digits are lower-case: text c3a9"
-damage_words Unquoted = codes "not a step\n  a text is quoted, and bytes are hex: text \"hi\" or text 6869"
+damage_words (InText damage) = text_damage_words damage
+damage_words (InWords damage) = word_damage_words damage
 damage_words Other = codes "not a step"

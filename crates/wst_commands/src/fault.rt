@@ -7,6 +7,7 @@ ghost use Rattle.wst_commands.specs.declared.fault.Fault.TheVariants as variant;
 ghost use Rattle.ws_frame.specs.Devices.{watched};
 
 use crate::exit::Exit;
+use crate::run_damages::RunDamage;
 use crate::step_damages::StepDamage;
 use crate::telling::tell;
 use std::alloc::{AllocError, Global};
@@ -58,10 +59,17 @@ pub enum Fault {
     NotACapture(u64),
     /// The first line that is damaged in a script of steps, counted from 1, and what is wrong with it.
     NotAStep(u64, StepDamage),
-    /// The first line of an earlier run that tells no verdict, and may not stand beside one, counted from 1.
-    NotAVerdict(u64),
+    /// The first line of an earlier run that tells no verdict, and may not stand beside one, counted from 1, and what
+    /// is wrong with it.
+    NotAVerdict(u64, RunDamage),
+    /// The first line of runs that tells no verdict, counted from 1, and what is wrong with it.
+    NotAResult(u64, RunDamage),
     /// The first line of runs that is none, counted from 1: its name is not UTF-8.
     NotAName(u64),
+    /// A report was written, and no line of its input is that of a case.
+    NoCaseLine,
+    /// A Fail of a server was written, and its frames are those of a client.
+    CaptureOfClient,
     /// The words of the command line are no text.
     NoText,
     /// The words of the command line ask for nothing.
@@ -159,8 +167,23 @@ pub fn tell_fault<F: Write>(alloc: Global, fault: Fault, faults: &mut Watched<F>
         Fault::NotACall(line) => tell_line(alloc, line, "not a call", faults),
         Fault::NotACapture(line) => tell_line(alloc, line, "not a capture", faults),
         Fault::NotAStep(line, damage) => tell_line(alloc, line, damage.words(), faults),
-        Fault::NotAVerdict(line) => tell_line(alloc, line, "not a verdict", faults),
+        Fault::NotAVerdict(line, damage) => tell_line(alloc, line, damage.known_words(), faults),
+        Fault::NotAResult(line, damage) => tell_line(alloc, line, damage.words(), faults),
         Fault::NotAName(line) => tell_line(alloc, line, "not a name", faults),
+        Fault::NoCaseLine => {
+            tell(
+                b"no line of a case: report reads what wst test printed\n",
+                faults,
+            );
+            Exit::Done
+        }
+        Fault::CaptureOfClient => {
+            tell(
+                b"the received frames are masked as a client's: to judge a client, add --role client\n",
+                faults,
+            );
+            Exit::Damaged
+        }
         Fault::NoText => {
             tell(b"error: the arguments are not UTF-8\n", faults);
             Exit::WrongWords
@@ -177,12 +200,13 @@ pub fn tell_fault<F: Write>(alloc: Global, fault: Fault, faults: &mut Watched<F>
     }
 }
 
-/// The line that tells why nothing can be listened at.
+/// The line that tells why nothing can be listened at, and below it which address is wanted where it is none.
 fn not_listening_line(why: ListenFault) -> &'static [u8]
     ensures { result.now ≡ not_listening_line why }
 {
     match why {
-        ListenFault::NoSuchHost => b"not listening: no such host\n",
+        ListenFault::NoSuchHost =>
+            b"not listening: no such host\n  HOST:PORT to listen at, up to 65535: localhost:9001\n",
         ListenFault::AddressInUse => b"not listening: address in use\n",
         ListenFault::NotPermitted => b"not listening: not permitted\n",
         ListenFault::Failed => b"not listening: failed\n",

@@ -3,16 +3,19 @@
 ghost use Rattle.std.specs.Prelude.{◌≡◌, ◌⊎◌, ⊤, IfOk, MatchBool, MatchOption, MatchResult, filter, map, take};
 ghost use Rattle.std.specs.Prelude.{string_bytes};
 ghost use Rattle.std.specs.Prelude.{◌-◌, false, length, true};
+ghost use Rattle.std.specs.List.{list_any};
 ghost use Rattle.ws_frame.specs.Devices.{watched};
 ghost use Rattle.wst_commands.specs.Devices.{StaysFailed, Tells};
 ghost use Rattle.wst_commands.specs.Faults.{LacksMemory};
 ghost use Rattle.wst_commands.specs.GivenCases.{AreCasesFor, AreNamesFor, GrowsByCase, GrowsByCases, HaveNoGlob};
 ghost use Rattle.wst_commands.specs.GivenCases.{LackCases, TellsNoCases};
-ghost use Rattle.wst_commands.specs.GivenCases.{ids_for, is_glob, is_meant, names_of, no_case_line, or_all};
+ghost use Rattle.wst_commands.specs.GivenCases.{case_advice, ids_for, is_address_byte, is_glob, is_meant, names_of};
+ghost use Rattle.wst_commands.specs.GivenCases.{no_case_line, or_all};
 ghost use Rattle.wst_commands.specs.declared.exit.Exit.TheVariants.{WrongWords};
 
 use crate::exit::Exit;
 use crate::fault::{Fault, tell_fault};
+use crate::shown_word::ShownWord;
 use crate::telling::tell;
 use std::alloc::{AllocError, Global};
 use std::io::Write;
@@ -212,13 +215,38 @@ fn tell_no_case<F: Write>(alloc: Global, id: &str, faults: &mut Watched<F>) -> E
         ⊎ LacksMemory result (watched F.contents faults.old faults.new) }
     ensures still { StaysFailed faults.old faults.new }
 {
-    match format!(in alloc;
-        "no such case: {id}\n  wst cases lists them; a star stands for a group: '2.*'\n"
-    ) {
+    let shown = ShownWord { alloc, word: id };
+    let advice = case_advice(id);
+    match format!(in alloc; "no such case: {shown}\n  {advice}\n") {
         Ok(line) => {
             tell(line.as_bytes(), faults);
             Exit::WrongWords
         }
         Err(_) => tell_fault(alloc, Fault::NoMemory, faults),
     }
+}
+
+/// What to type instead of a word that stands for no case.
+fn case_advice(id: &str) -> &'static str
+    ensures { result.now ≡ case_advice id.now }
+{
+    if has_address_byte(id.as_bytes()) {
+        "TARGET comes before IDs, and --known reads stdin: wst test --known TARGET '2.*' < known.txt"
+    } else {
+        "wst cases lists them; a star stands for a group: '2.*'"
+    }
+}
+
+/// Whether one of these bytes is of addresses and paths, and of no case's name.
+fn has_address_byte(id: &[u8]) -> bool
+    ensures { result ≡ list_any is_address_byte id.now }
+{
+    id.iter().any(|byte| is_address_byte(*byte))
+}
+
+/// Whether a byte is one of addresses and paths, and of no case's name.
+fn is_address_byte(byte: u8) -> bool
+    ensures { result ≡ is_address_byte byte }
+{
+    byte == b':' || byte == b'/'
 }

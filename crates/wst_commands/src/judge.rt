@@ -4,11 +4,13 @@ ghost use Rattle.std.specs.Prelude.{◌≡◌, [], None, Some, false, string_byt
 ghost use Rattle.ws_frame.specs.Devices.{watched};
 ghost use Rattle.ws_frame.specs.Watching.{has_failed};
 ghost use Rattle.ws_frame.specs.declared.source.DataStyle.TheVariants.{Hex};
+ghost use Rattle.ws_scripts.specs.Pieces.{lent_turn};
 ghost use Rattle.wst_commands.specs.Devices.{Delivers};
 ghost use Rattle.wst_commands.specs.Explaining.{explanation_lines};
 ghost use Rattle.wst_commands.specs.InnerExplaining.{explained_text};
-ghost use Rattle.wst_commands.specs.Judge.{RunsJudge, TellsJudged, TellsVerdict, TellsVerdictWith};
-ghost use Rattle.wst_commands.specs.Judge.{capture_fault, exit_of};
+ghost use Rattle.wst_commands.specs.Judge.{RunsJudge, TellsJudged, TellsVerdict, TellsVerdictWith, WritesVerdict};
+ghost use Rattle.wst_commands.specs.Judge.{begins_masked, begins_unmasked, capture_fault, ended_verdict, exit_of};
+ghost use Rattle.wst_commands.specs.Judge.{failed_verdict, is_of_client, is_turn_of_client};
 
 use crate::exit::Exit;
 use crate::explaining::{Judgement, judgement_of, last_lines};
@@ -20,6 +22,7 @@ use crate::writing_explanation::write_explained;
 use std::alloc::Global;
 use std::io::{Read, Write};
 use ws_frame::{DataStyle, Watched};
+use ws_scripts::{AsTranscript, TurnRef};
 use ws_suite::{
     CaptureFault, Expectation, Explanation, KeptTranscript, Verdict, explain_with, judge_with,
 };
@@ -56,7 +59,8 @@ pub fn fault_of(fault: CaptureFault) -> Fault
     }
 }
 
-/// Writes the verdict on a transcript in its line, and below it why it is told where that is asked for.
+/// Writes the verdict on a transcript, and why it is told where that is asked for. A Fail of a server whose frames are
+/// those of a client is told so.
 fn tell_verdict<W: Write>(
     alloc: Global,
     options: JudgeOptions,
@@ -65,6 +69,86 @@ fn tell_verdict<W: Write>(
 ) -> Result<Exit, Fault>
     requires { has_failed writer.old ≡ false }
     ensures { TellsVerdict options transcript.now result (watched W.contents writer.old writer.new) }
+{
+    match write_verdict(alloc, options, transcript, writer) {
+        Ok(exit) => ended_verdict(options.role, transcript, exit),
+        Err(fault) => Err(fault),
+    }
+}
+
+/// How a run ends that has written a verdict on a transcript and answered this exit.
+fn ended_verdict(tested: Role, transcript: &KeptTranscript, exit: Exit) -> Result<Exit, Fault>
+    ensures { result ≡ ended_verdict tested transcript.now exit }
+{
+    match exit {
+        Exit::Damaged => failed_verdict(tested, transcript),
+        Exit::Done | Exit::WrongWords | Exit::Failed => Ok(exit),
+    }
+}
+
+/// How it ends where that is a Fail of this end.
+fn failed_verdict(tested: Role, transcript: &KeptTranscript) -> Result<Exit, Fault>
+    ensures { result ≡ failed_verdict tested transcript.now }
+{
+    match tested {
+        Role::Client => Ok(Exit::Damaged),
+        Role::Server => {
+            if is_of_client(transcript) {
+                Err(Fault::CaptureOfClient)
+            } else {
+                Ok(Exit::Damaged)
+            }
+        }
+    }
+}
+
+/// Whether a transcript is that of a client by its first turn.
+fn is_of_client(transcript: &KeptTranscript) -> bool
+    ensures { result ≡ is_of_client transcript.now.turns }
+{
+    let mut walk = transcript.as_transcript().turns();
+    if walk.len() == 0 {
+        return false;
+    }
+    is_turn_of_client(walk.take_first())
+}
+
+/// Whether the tested end masked its first frame in a turn, as only a client does, and the tester didn't.
+fn is_turn_of_client(turn: TurnRef<'_>) -> bool
+    ensures { result ≡ is_turn_of_client (lent_turn turn.entry) }
+{
+    begins_masked(turn.got) && begins_unmasked(turn.sent)
+}
+
+/// Whether a frame begins here whose header says that it is masked.
+fn begins_masked(bytes: &[u8]) -> bool
+    ensures { result ≡ begins_masked bytes.now }
+{
+    match bytes {
+        [_, second, ..] => *second > 127,
+        _ => false,
+    }
+}
+
+/// Whether a frame begins here whose header says that it is not.
+fn begins_unmasked(bytes: &[u8]) -> bool
+    ensures { result ≡ begins_unmasked bytes.now }
+{
+    match bytes {
+        [_, second, ..] => *second < 128,
+        _ => false,
+    }
+}
+
+/// Writes the verdict on a transcript in its line, and below it why it is told where that is asked for.
+fn write_verdict<W: Write>(
+    alloc: Global,
+    options: JudgeOptions,
+    transcript: &KeptTranscript,
+    writer: &mut Watched<W>,
+) -> Result<Exit, Fault>
+    requires { has_failed writer.old ≡ false }
+    ensures { WritesVerdict options transcript.now result (watched W.contents writer.old writer.new) }
 {
     if !options.explain {
         return tell_plain(alloc, options.role, options.expect, transcript, writer);

@@ -32,9 +32,13 @@ mod reading_lines;
 mod reading_whole;
 mod reply_text;
 mod report;
+mod run_damages;
 mod session;
 mod show;
+mod shown_word;
 mod step_damages;
+mod step_texts;
+mod step_words;
 mod styled_data;
 mod telling;
 mod time_limit;
@@ -54,9 +58,12 @@ pub use pair::run_moves;
 pub use reading_lines::{InputFault, take_input};
 pub use reading_whole::{ReadStop, read_whole};
 pub use report::run_report;
+pub use run_damages::{RunDamage, run_damage};
 pub use session::run_session;
 pub use show::run_show;
 pub use step_damages::{StepDamage, step_damage};
+pub use step_texts::TextDamage;
+pub use step_words::WordDamage;
 pub use telling::{deliver, tell};
 pub use time_limit::{
     TimeLimit, count_given, deadline_given, has_unit, run_timeout_given, timeout_given, wait_given,

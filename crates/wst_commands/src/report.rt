@@ -7,12 +7,13 @@ ghost use Rattle.ws_runs.specs.Summary.{runs_summary};
 ghost use Rattle.ws_scripts.specs.CaseNames.{listed_names};
 ghost use Rattle.wst_commands.specs.ReadingWhole.{AnswersInput};
 ghost use Rattle.wst_commands.specs.Report.{IsListedDocument, IsRunReport, ReportsRuns, ReportsText, RunsReport};
-ghost use Rattle.wst_commands.specs.Report.{date_of, report_kind, run_fault};
+ghost use Rattle.wst_commands.specs.Report.{date_of, ended_report, ended_without_case, report_kind, run_fault};
 
 use crate::exit::Exit;
 use crate::fault::Fault;
 use crate::page_texts::page_of;
 use crate::reading_whole::{ReadStop, read_whole};
+use crate::run_damages::run_damage;
 use crate::telling::deliver;
 use std::alloc::Global;
 use std::io::{Read, Write};
@@ -131,8 +132,31 @@ fn report_runs<'a, W: Write>(
     ensures { ReportsRuns kind date.now runs.now result (watched W.contents writer.old writer.new) }
 {
     match report_of(alloc, kind, date, runs, listed) {
-        Ok(report) => Ok(deliver(Exit::Done, report.as_bytes(), writer)),
+        Ok(report) => {
+            let exit = deliver(Exit::Done, report.as_bytes(), writer);
+            ended_report(runs.ids(), exit)
+        }
         Err(_) => Err(Fault::NoMemory),
+    }
+}
+
+/// How a run ends that has written a report of the cases with these names.
+fn ended_report(ids: &[&[u8]], exit: Exit) -> Result<Exit, Fault>
+    ensures { result ≡ ended_report (map (λ id. id.now) ids.now) exit }
+{
+    match ids {
+        [] => ended_without_case(exit),
+        [_, ..] => Ok(exit),
+    }
+}
+
+/// How it ends where it has written one of no case.
+fn ended_without_case(exit: Exit) -> Result<Exit, Fault>
+    ensures { result ≡ ended_without_case exit }
+{
+    match exit {
+        Exit::Done => Err(Fault::NoCaseLine),
+        Exit::Damaged | Exit::WrongWords | Exit::Failed => Ok(exit),
     }
 }
 
@@ -179,7 +203,7 @@ fn run_fault(text: &[u8], fault: TextFault) -> Fault
 {
     match fault {
         TextFault::Damaged(line) if is_name_line(text, line) => Fault::NotAName(line),
-        TextFault::Damaged(line) => Fault::NotAVerdict(line),
+        TextFault::Damaged(line) => Fault::NotAResult(line, run_damage(text, line)),
         TextFault::NoMemory => Fault::NoMemory,
     }
 }

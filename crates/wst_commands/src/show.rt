@@ -4,7 +4,7 @@ ghost use Rattle.std.specs.Prelude.{◌≡◌, false};
 ghost use Rattle.ws_frame.specs.Devices.{watched};
 ghost use Rattle.ws_frame.specs.Watching.{has_failed};
 ghost use Rattle.ws_frame.specs.Lines.{alone};
-ghost use Rattle.wst_commands.specs.Show.{RunsShow, ShowsCapture, ShowsStream, TellsLines};
+ghost use Rattle.wst_commands.specs.Show.{RunsShow, ShowsCapture, ShowsStream, TellsLines, TellsMarked};
 ghost use Rattle.wst_commands.specs.Show.{budget_of, show_plan, shown, shown_role};
 
 use crate::exit::Exit;
@@ -12,6 +12,7 @@ use crate::fault::Fault;
 use crate::reading_capture::{ended_by, read_capture};
 use std::alloc::Global;
 use std::io::{Read, Write};
+use ws_faults::marked_frames;
 use ws_frame::{DataStyle, ShowEnd, ShowFault, Source, Watched, show, show_payloads};
 use ws_lines::{Showing, fits_places, show_transcript};
 use ws_suite::KeptTranscript;
@@ -49,11 +50,7 @@ pub fn run_show<R: Read, W: Write>(
             show_stream(alloc, from, options.style, budget, reader, writer)
         }
         Ok(ShowPlan::Capture { tested }) => {
-            let showing = Showing {
-                tested,
-                style: options.style,
-            };
-            show_capture(alloc, showing, reader, writer)
+            show_capture(alloc, tested, options.style, reader, writer)
         }
     }
 }
@@ -135,18 +132,45 @@ fn exit_of(end: ShowEnd) -> Result<Exit, Fault>
 #[inline(never)]
 fn show_capture<R: Read, W: Write>(
     alloc: Global,
-    showing: Showing,
+    tested: Role,
+    style: DataStyle,
     reader: &mut Watched<R>,
     writer: &mut Watched<W>,
 ) -> Result<Exit, Fault>
     requires reader_works { has_failed reader.old ≡ false }
     requires writer_works { has_failed writer.old ≡ false }
-    ensures { ShowsCapture showing result (watched R.remaining reader.old reader.new)
+    ensures { ShowsCapture tested style result (watched R.remaining reader.old reader.new)
         (watched W.contents writer.old writer.new) }
 {
     match read_capture(alloc, reader) {
-        Ok(capture) => tell_lines(alloc, showing, capture.transcript(), writer),
+        Ok(capture) => tell_marked(alloc, tested, style, capture.transcript(), writer),
         Err(stop) => ended_by(stop),
+    }
+}
+
+/// Writes the lines of a transcript, once it is known which of them are marked: so memory is taken for that before
+/// anything is written.
+fn tell_marked<W: Write>(
+    alloc: Global,
+    tested: Role,
+    style: DataStyle,
+    transcript: &KeptTranscript,
+    writer: &mut Watched<W>,
+) -> Result<Exit, Fault>
+    requires { has_failed writer.old ≡ false }
+    ensures { TellsMarked tested style transcript.now result (watched W.contents writer.old writer.new) }
+{
+    match marked_frames(alloc, tested, transcript) {
+        Err(_) => Err(Fault::NoMemory),
+        Ok(marked) => {
+            let showing = Showing {
+                tested,
+                style,
+                sent_fault: marked.sent,
+                got_fault: marked.got,
+            };
+            tell_lines(alloc, showing, transcript, writer)
+        }
     }
 }
 

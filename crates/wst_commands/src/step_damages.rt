@@ -1,17 +1,15 @@
 //! What is wrong with a line that is no step, where that is known to be typed often.
 
 ghost use Rattle.std.specs.Prelude.{◌≡◌, ◌==◌, ◌<◌, ℕ, IfOk, IfSome, length, map, position};
-ghost use Rattle.std.specs.Char.{is_ascii_control, is_ascii_hexdigit, is_ascii_uppercase};
 ghost use Rattle.std.specs.List.{list_all, list_any};
-ghost use Rattle.wst_commands.specs.declared.step_damages.StepDamage.TheVariants.{Other};
-ghost use Rattle.wst_commands.specs.StepDamages.{CutsAtMark, CutsAtQuote, behind_damage, behind_lines, damage_words};
-ghost use Rattle.wst_commands.specs.StepDamages.{closing_quote, descend, escapes, has_wrong_escape, inner_damage};
-ghost use Rattle.wst_commands.specs.StepDamages.{is_escape_letter, is_unprintable, text_fault};
-ghost use Rattle.wst_commands.specs.StepDamages.{has_capitals, is_first_word, is_no_data, or_unquoted, word_damage};
-ghost use Rattle.wst_commands.specs.StepDamages.{is_reserved_name, is_right_rsv, is_unquoted, is_wrong_rsv};
-ghost use Rattle.wst_commands.specs.StepDamages.{are_fields, field_rank, is_frame_name, line_damage, ordered_damage};
-ghost use Rattle.wst_commands.specs.StepDamages.{order_damage, quoted_damage, step_damage, words_damage};
+ghost use Rattle.wst_commands.specs.StepDamages.{CutsAtMark, CutsAtQuote, behind_damage, behind_lines, closing_quote};
+ghost use Rattle.wst_commands.specs.StepDamages.{damage_words, escapes, found_in_words, has_tab, is_blank_word};
+ghost use Rattle.wst_commands.specs.StepDamages.{is_comment, is_glued, is_misspaced, layout_damage, line_damage};
+ghost use Rattle.wst_commands.specs.StepDamages.{order_damage, plain_damage, quoted_damage, step_damage};
+ghost use Rattle.wst_commands.specs.StepDamages.{text_damage_words, text_line_damage, texts_damage, words_damage};
 
+use crate::step_texts::{TextDamage, text_damage};
+use crate::step_words::{WordDamage, descend, is_disordered, named_damage};
 use memchr::memchr;
 use std::alloc::{AllocError, Global};
 use ws_formats::words_of;
@@ -28,22 +26,22 @@ pub enum StepDamage {
     EndsInCr,
     /// It has quotes, but not two that no backslash escapes.
     Quotes,
+    /// More stands behind its text.
+    AfterText,
+    /// A comment stands behind its step.
+    Comment,
+    /// It has a space too many or too few, or a tab.
+    Spaces,
+    /// It has something behind `wait`.
+    Wait,
+    /// Its chop is none, or stands behind a step.
+    Chop,
     /// Its fields stand in another order.
     Order,
-    /// Its text is no UTF-8, or has a control character.
-    Unprintable,
-    /// A backslash of its text begins no escape.
-    Escape,
-    /// It names a frame and has no payload.
-    NoPayload,
-    /// It begins with a word that no line begins with.
-    Kind,
-    /// Its reserved bits are above 7, or no number.
-    Reserved,
-    /// Its hexadecimal digits are capital.
-    Capitals,
-    /// Its payload is a text without quotes.
-    Unquoted,
+    /// Its text stands for no bytes.
+    InText(TextDamage),
+    /// One of its words is wrong, or they don't go together.
+    InWords(WordDamage),
     /// It is none of these.
     Other,
 }
@@ -59,22 +57,33 @@ impl StepDamage {
                 "not a step\n  end lines with LF alone, not with CR LF: tr -d '\\r'",
             StepDamage::Quotes =>
                 "not a step\n  a text has a quote at each end, and \\\" between: text \"say \\\"hi\\\"\"",
+            StepDamage::AfterText => "not a step\n  the second quote ends the line: text \"hi\"",
+            StepDamage::Comment =>
+                "not a step\n  a comment has a line of its own, from its first byte on",
+            StepDamage::Spaces =>
+                "not a step\n  one space between words and before a quote, none at the ends, no tab",
+            StepDamage::Wait => "not a step\n  wait stands alone, --timeout says how long",
+            StepDamage::Chop =>
+                "not a step\n  chop whole, chop frames or chop octets N, once, before all steps",
             StepDamage::Order => "not a step\n  the order is KIND fin= rsv= key= form= DATA",
-            StepDamage::Unprintable =>
-                "not a step\n  a text is UTF-8 without control characters, other bytes are hex: text ff",
-            StepDamage::Escape =>
-                "not a step\n  an escape is \\\" \\\\ \\/ \\b \\f \\n \\r \\t or \\uXXXX: text \"C:\\\\temp\"",
-            StepDamage::NoPayload =>
-                "not a step\n  the payload stands last, - is an empty one: ping -",
-            StepDamage::Kind =>
-                "not a step\n  a step begins with text, binary, cont, ping, pong, close, raw, wait or opN",
-            StepDamage::Reserved =>
-                "not a step\n  rsv is 0 to 7, as 4*RSV1 + 2*RSV2 + RSV3: text rsv=4 -",
-            StepDamage::Capitals => "not a step\n  hexadecimal digits are lower-case: text c3a9",
-            StepDamage::Unquoted =>
-                "not a step\n  a text is quoted, and bytes are hex: text \"hi\" or text 6869",
+            StepDamage::InText(damage) => text_words(damage),
+            StepDamage::InWords(damage) => damage.words(),
             StepDamage::Other => "not a step",
         }
+    }
+}
+
+/// What is told of a text.
+fn text_words(damage: TextDamage) -> &'static str
+    ensures { result.now ≡ text_damage_words damage }
+{
+    match damage {
+        TextDamage::Unprintable =>
+            "not a step\n  a text is UTF-8 without control characters, other bytes are hex: text ff",
+        TextDamage::Escape =>
+            "not a step\n  an escape is \\\" \\\\ \\/ \\b \\f \\n \\r \\t or \\uXXXX: text \"C:\\\\temp\"",
+        TextDamage::Half =>
+            "not a step\n  half of a pair has no other half: text \"\\ud83d\\ude00\"",
     }
 }
 
@@ -90,7 +99,7 @@ pub fn step_damage(alloc: Global, text: &[u8], number: u64) -> Result<StepDamage
 }
 
 /// What stands behind so many lines.
-fn behind_lines(text: &[u8], count: u64) -> &[u8]
+pub(crate) fn behind_lines(text: &[u8], count: u64) -> &[u8]
     ensures { result.now ≡ behind_lines count text.now }
 {
     let mut rest = text;
@@ -112,7 +121,103 @@ fn line_damage(alloc: Global, line: &[u8]) -> Result<StepDamage, AllocError>
     }
     match cut_at(line, b'"') {
         Some((front, rest)) => quoted_damage(alloc, front, rest),
-        None => order_damage(alloc, line),
+        None => {
+            let words = words_of(alloc, line)?;
+            Ok(plain_damage(words.as_slice()))
+        }
+    }
+}
+
+/// What is wrong with the words of a line that has no quote.
+fn plain_damage(words: &[&[u8]]) -> StepDamage
+    ensures { result ≡ plain_damage (map (λ word. word.now) words.now) }
+{
+    match layout_damage(words) {
+        Some(damage) => damage,
+        None => words_damage(words),
+    }
+}
+
+/// How the words of a line stand, where they don't stand as they should.
+fn layout_damage(words: &[&[u8]]) -> Option<StepDamage>
+    ensures { result ≡ layout_damage (map (λ word. word.now) words.now) }
+{
+    if has_comment(words) {
+        Some(StepDamage::Comment)
+    } else if has_misspaced(words) {
+        Some(StepDamage::Spaces)
+    } else {
+        order_damage(words)
+    }
+}
+
+/// Whether a comment begins with one of the words.
+fn has_comment(words: &[&[u8]]) -> bool
+    ensures { result ≡ list_any is_comment (map (λ word. word.now) words.now) }
+{
+    for word in words {
+        if word.starts_with(b"#") {
+            return true;
+        }
+    }
+    false
+}
+
+/// Whether a space stands beside one of the words or in its place, or a tab in it.
+fn has_misspaced(words: &[&[u8]]) -> bool
+    ensures { result ≡ list_any is_misspaced (map (λ word. word.now) words.now) }
+{
+    for word in words {
+        if is_misspaced(*word) {
+            return true;
+        }
+    }
+    false
+}
+
+/// Whether a word is empty, or has a tab.
+fn is_misspaced(word: &[u8]) -> bool
+    ensures { result ≡ is_misspaced word.now }
+{
+    word == b"".as_slice() || has_tab(word)
+}
+
+/// Whether one of these bytes is a tab.
+fn has_tab(word: &[u8]) -> bool
+    ensures { result ≡ has_tab word.now }
+{
+    word.iter().any(|byte| *byte == b'\t')
+}
+
+/// What is wrong with the first word of a line, or with the order of the others.
+fn order_damage(words: &[&[u8]]) -> Option<StepDamage>
+    ensures { result ≡ order_damage (map (λ word. word.now) words.now) }
+{
+    match words {
+        [name, ..] if *name == b"wait".as_slice() => Some(StepDamage::Wait),
+        [name, ..] if *name == b"chop".as_slice() => Some(StepDamage::Chop),
+        [_, fields @ ..] if is_disordered(fields) => Some(StepDamage::Order),
+        _ => None,
+    }
+}
+
+/// What is wrong with the words of a line, which stand as they should.
+fn words_damage(words: &[&[u8]]) -> StepDamage
+    ensures { result ≡ words_damage (map (λ word. word.now) words.now) }
+{
+    match words {
+        [name, fields @ ..] => found_in_words(named_damage(*name, fields)),
+        [] => StepDamage::Other,
+    }
+}
+
+/// What was found in the words, if anything was.
+fn found_in_words(found: Option<WordDamage>) -> StepDamage
+    ensures { result ≡ found_in_words found }
+{
+    match found {
+        Some(damage) => StepDamage::InWords(damage),
+        None => StepDamage::Other,
     }
 }
 
@@ -127,88 +232,42 @@ fn quoted_damage(alloc: Global, front: &[u8], rest: &[u8]) -> Result<StepDamage,
         return Ok(StepDamage::Quotes);
     }
     if behind.is_empty() {
-        let fields = order_damage(alloc, front)?;
-        return Ok(inner_damage(text, fields));
+        return text_line_damage(alloc, front, text);
     }
     let words = words_of(alloc, behind)?;
     Ok(behind_damage(words.as_slice()))
 }
 
-/// What is wrong with a line that ends with a text, by this text and by what is wrong with the fields before it.
-fn inner_damage(text: &[u8], fields: StepDamage) -> StepDamage
-    ensures { result ≡ inner_damage text.now fields }
+/// What is wrong with a line that ends with a text, of which this stands before the text.
+fn text_line_damage(alloc: Global, front: &[u8], text: &[u8]) -> Result<StepDamage, AllocError>
+    ensures { IfOk result (λ damage. damage ≡ text_line_damage front.now text.now) }
 {
-    match fields {
-        StepDamage::Unended => StepDamage::Unended,
-        StepDamage::EndsInCr => StepDamage::EndsInCr,
-        StepDamage::Quotes => StepDamage::Quotes,
-        StepDamage::Order => StepDamage::Order,
-        StepDamage::Unprintable => StepDamage::Unprintable,
-        StepDamage::Escape => StepDamage::Escape,
-        StepDamage::NoPayload | StepDamage::Unquoted | StepDamage::Other => {
-            text_fault(text, StepDamage::Other)
-        }
-        StepDamage::Kind => text_fault(text, StepDamage::Kind),
-        StepDamage::Reserved => text_fault(text, StepDamage::Reserved),
-        StepDamage::Capitals => text_fault(text, StepDamage::Capitals),
+    if is_glued(front) {
+        return Ok(StepDamage::Spaces);
     }
+    let mut line = front.to_vec(alloc)?;
+    line.push(b'-')?;
+    let words = words_of(alloc, line.as_slice())?;
+    Ok(texts_damage(text, words.as_slice()))
 }
 
-/// What may be wrong with a text itself, or else this.
-fn text_fault(text: &[u8], other: StepDamage) -> StepDamage
-    ensures { result ≡ text_fault text.now other }
+/// Whether these bytes, in front of a quote, end without a space.
+fn is_glued(front: &[u8]) -> bool
+    ensures { result ≡ is_glued front.now }
 {
-    if is_unprintable(text) {
-        StepDamage::Unprintable
-    } else if has_wrong_escape(text) {
-        StepDamage::Escape
-    } else {
-        other
+    !front.is_empty() && !front.ends_with(b" ")
+}
+
+/// What is wrong with a line that ends with a text, by its words with a dash in the place of the text.
+fn texts_damage(text: &[u8], words: &[&[u8]]) -> StepDamage
+    ensures { result ≡ texts_damage text.now (map (λ word. word.now) words.now) }
+{
+    if let Some(damage) = layout_damage(words) {
+        return damage;
     }
-}
-
-/// Whether these bytes are no UTF-8, or hold a control character of ASCII.
-fn is_unprintable(text: &[u8]) -> bool
-    ensures { result ≡ is_unprintable text.now }
-{
-    match std::str::from_utf8(text) {
-        Ok(_) => has_control(text),
-        Err(_) => true,
-    }
-}
-
-/// Whether one of these bytes is a control character of ASCII.
-fn has_control(text: &[u8]) -> bool
-    ensures { result ≡ list_any is_ascii_control text.now }
-{
-    text.iter().any(|byte| byte.is_ascii_control())
-}
-
-/// Whether a backslash that no backslash escapes begins no escape.
-fn has_wrong_escape(text: &[u8]) -> bool
-    ensures { result ≡ has_wrong_escape text.now }
-{
-    let mut rest = text;
-    while let [byte, next, ..] = rest {
-        if *byte == b'\\' {
-            if !is_escape_letter(*next) {
-                return true;
-            }
-            rest = &rest[2..];
-        } else {
-            rest = &rest[1..];
-        }
-    }
-    false
-}
-
-/// Whether a backslash may stand before this byte.
-fn is_escape_letter(byte: u8) -> bool
-    ensures { result ≡ is_escape_letter byte }
-{
-    match byte {
-        b'"' | b'\\' | b'/' | b'b' | b'f' | b'n' | b'r' | b't' | b'u' => true,
-        _ => false,
+    match text_damage(text) {
+        Some(damage) => StepDamage::InText(damage),
+        None => words_damage(words),
     }
 }
 
@@ -216,225 +275,34 @@ fn is_escape_letter(byte: u8) -> bool
 fn behind_damage(words: &[&[u8]]) -> StepDamage
     ensures { result ≡ behind_damage (map (λ word. word.now) words.now) }
 {
-    if descend(DATA, words) {
+    if has_comment(words) {
+        StepDamage::Comment
+    } else if are_blank(words) {
+        StepDamage::Spaces
+    } else if descend(DATA, words) {
         StepDamage::Order
     } else {
-        StepDamage::Other
+        StepDamage::AfterText
     }
 }
 
-/// What is wrong with a line that has no quote.
-fn order_damage(alloc: Global, line: &[u8]) -> Result<StepDamage, AllocError>
-    ensures { IfOk result (λ damage. damage ≡ order_damage line.now) }
-{
-    let words = words_of(alloc, line)?;
-    Ok(words_damage(words.as_slice()))
-}
-
-/// What is wrong with the words of a line that has no quote.
-fn words_damage(words: &[&[u8]]) -> StepDamage
-    ensures { result ≡ words_damage (map (λ word. word.now) words.now) }
-{
-    match words {
-        [_, fields @ ..] if descend(0, fields) => StepDamage::Order,
-        [name, fields @ ..] => ordered_damage(*name, fields),
-        [] => StepDamage::Other,
-    }
-}
-
-/// What is wrong with the words of a line, of which none stands behind one that is to follow it.
-fn ordered_damage(name: &[u8], fields: &[&[u8]]) -> StepDamage
-    ensures { result ≡ ordered_damage name.now (map (λ word. word.now) fields.now) }
-{
-    if is_frame_name(name) && are_fields(fields) {
-        StepDamage::NoPayload
-    } else if is_first_word(name) {
-        word_damage(is_frame_name(name), fields)
-    } else {
-        StepDamage::Kind
-    }
-}
-
-/// Whether a line that is no comment begins with this word.
-fn is_first_word(word: &[u8]) -> bool
-    ensures { result ≡ is_first_word word.now }
-{
-    is_frame_name(word)
-        || is_reserved_name(word)
-        || word.starts_with(b"close=")
-        || word == b"raw".as_slice()
-        || word == b"wait".as_slice()
-        || word == b"chop".as_slice()
-}
-
-/// Whether it is the name of a reserved opcode.
-fn is_reserved_name(name: &[u8]) -> bool
-    ensures { result ≡ is_reserved_name name.now }
-{
-    name == b"op3".as_slice()
-        || name == b"op4".as_slice()
-        || name == b"op5".as_slice()
-        || name == b"op6".as_slice()
-        || name == b"op7".as_slice()
-        || name == b"op11".as_slice()
-        || name == b"op12".as_slice()
-        || name == b"op13".as_slice()
-        || name == b"op14".as_slice()
-        || name == b"op15".as_slice()
-}
-
-/// What is wrong with the first word whose digits are wrong, or else whether one lacks its quotes.
-fn word_damage(may_be_text: bool, words: &[&[u8]]) -> StepDamage
-    ensures { result ≡ word_damage may_be_text Other (map (λ word. word.now) words.now) }
-{
-    let mut other = StepDamage::Other;
-    for word in words {
-        if is_wrong_rsv(*word) {
-            return StepDamage::Reserved;
-        }
-        if has_capitals(*word) {
-            return StepDamage::Capitals;
-        }
-        other = or_unquoted(may_be_text, other, *word);
-    }
-    other
-}
-
-/// This, or that the word lacks its quotes, where it may be a text.
-fn or_unquoted(may_be_text: bool, other: StepDamage, word: &[u8]) -> StepDamage
-    ensures { result ≡ or_unquoted may_be_text other word.now }
-{
-    if may_be_text && is_unquoted(word) {
-        StepDamage::Unquoted
-    } else {
-        other
-    }
-}
-
-/// Whether a word is a field of reserved bits that are not 0 to 7.
-fn is_wrong_rsv(word: &[u8]) -> bool
-    ensures { result ≡ is_wrong_rsv word.now }
-{
-    word.starts_with(b"rsv=") && !is_right_rsv(word)
-}
-
-/// Whether a word is a field of the reserved bits.
-fn is_right_rsv(word: &[u8]) -> bool
-    ensures { result ≡ is_right_rsv word.now }
-{
-    word == b"rsv=0".as_slice()
-        || word == b"rsv=1".as_slice()
-        || word == b"rsv=2".as_slice()
-        || word == b"rsv=3".as_slice()
-        || word == b"rsv=4".as_slice()
-        || word == b"rsv=5".as_slice()
-        || word == b"rsv=6".as_slice()
-        || word == b"rsv=7".as_slice()
-}
-
-/// Whether a word is hexadecimal digits, of which some are capital.
-fn has_capitals(word: &[u8]) -> bool
-    ensures { result ≡ has_capitals word.now }
-{
-    are_hexadecimal(word) && has_capital(word)
-}
-
-/// Whether each byte is a hexadecimal digit, in either case.
-fn are_hexadecimal(word: &[u8]) -> bool
-    ensures { result ≡ list_all is_ascii_hexdigit word.now }
-{
-    word.iter().all(|byte| byte.is_ascii_hexdigit())
-}
-
-/// Whether one of these bytes is a capital letter.
-fn has_capital(word: &[u8]) -> bool
-    ensures { result ≡ list_any is_ascii_uppercase word.now }
-{
-    word.iter().any(|byte| byte.is_ascii_uppercase())
-}
-
-/// Whether a word is no field, and no data without quotes.
-fn is_unquoted(word: &[u8]) -> bool
-    ensures { result ≡ is_unquoted word.now }
-{
-    !has_equals(word) && has_no_data(word)
-}
-
-/// Whether one of these bytes is an equals sign, as in a field.
-fn has_equals(word: &[u8]) -> bool
-    ensures { result ≡ list_any (λ (byte : ℕ). byte == 61) word.now }
-{
-    word.iter().any(|byte| *byte == b'=')
-}
-
-/// Whether one of these bytes is in no data without quotes.
-fn has_no_data(word: &[u8]) -> bool
-    ensures { result ≡ list_any is_no_data word.now }
-{
-    word.iter().any(|byte| is_no_data(*byte))
-}
-
-/// Whether no data without quotes has this byte.
-fn is_no_data(byte: u8) -> bool
-    ensures { result ≡ is_no_data byte }
-{
-    !(byte.is_ascii_hexdigit() || byte == b'*' || byte == b'-')
-}
-
-/// Whether a frame has this name, and its payload behind it.
-fn is_frame_name(name: &[u8]) -> bool
-    ensures { result ≡ is_frame_name name.now }
-{
-    name == b"text".as_slice()
-        || name == b"binary".as_slice()
-        || name == b"cont".as_slice()
-        || name == b"close".as_slice()
-        || name == b"ping".as_slice()
-        || name == b"pong".as_slice()
-}
-
-/// Whether all of these words are fields, and none is a payload.
-fn are_fields(words: &[&[u8]]) -> bool
-    ensures { result ≡ are_fields (map (λ word. word.now) words.now) }
+/// Whether each of the words is nothing but tabs.
+fn are_blank(words: &[&[u8]]) -> bool
+    ensures { result ≡ list_all is_blank_word (map (λ word. word.now) words.now) }
 {
     for word in words {
-        if field_rank(*word) >= DATA {
+        if !is_blank_word(*word) {
             return false;
         }
     }
     true
 }
 
-/// Whether a word of a frame stands behind one that is to follow it. The first stands behind one of this rank.
-fn descend(first: u8, fields: &[&[u8]]) -> bool
-    ensures { result ≡ descend first (map (λ word. word.now) fields.now) }
+/// Whether a word is nothing but tabs.
+fn is_blank_word(word: &[u8]) -> bool
+    ensures { result ≡ is_blank_word word.now }
 {
-    let mut last = first;
-    for word in fields {
-        let rank = field_rank(*word);
-        if rank < last {
-            return true;
-        }
-        last = rank;
-    }
-    false
-}
-
-/// Where a word stands among those behind the name of a frame.
-fn field_rank(word: &[u8]) -> u8
-    ensures { result ≡ field_rank word.now }
-{
-    if word.starts_with(b"fin=") {
-        1
-    } else if word.starts_with(b"rsv=") {
-        2
-    } else if word.starts_with(b"key=") {
-        3
-    } else if word.starts_with(b"form=") {
-        4
-    } else {
-        DATA
-    }
+    word.iter().all(|byte| *byte == b'\t')
 }
 
 /// What stands before the first of these bytes, and behind it. `None` where there is none.

@@ -65,6 +65,7 @@ pub(crate) fn cases_options<'a>(options: &ArgMatches<'a>) -> Option<CasesOptions
 pub(crate) fn help<'a>() -> HelpText<'a> {
     HelpText {
         about: "List the test cases, or write one as a script",
+        usage: None,
         after_help: AFTER_HELP,
     }
 }

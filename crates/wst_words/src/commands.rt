@@ -38,6 +38,8 @@ pub(crate) enum CommandName {
 pub(crate) struct HelpText<'a> {
     /// What the command does, in one sentence of one line.
     pub(crate) about: &'a str,
+    /// How it is called, where the words of `clap` don't say it: a command that reads stdin.
+    pub(crate) usage: Option<&'a str>,
     /// What follows the options: notes, exit statuses and examples.
     pub(crate) after_help: &'a str,
 }
@@ -171,11 +173,23 @@ fn command_of<'a>(
     ensures local { IfOk result (λ command. (fields_of command).has_globals ≡ false) }
 {
     let help = help_of(name);
-    let bare = Command::new(alloc, name_of(name))
+    let named = Command::new(alloc, name_of(name))
         .about(help.about)
         .after_help(help.after_help);
+    let bare = with_usage(named, help.usage);
     let command = with_arguments(alloc, bare, arguments_of(name), names)?;
     Ok(command)
+}
+
+/// A command that is called so, where it is said how.
+fn with_usage<'a>(bare: Command<'a>, usage: Option<&'a str>) -> Command<'a>
+    ensures app { app_of result ≡ app_of bare.entry }
+    ensures local { (fields_of result).has_globals ≡ (fields_of bare.entry).has_globals }
+{
+    match usage {
+        Some(usage) => bare.override_usage(usage),
+        None => bare,
+    }
 }
 
 /// A command with these arguments besides.

@@ -6,6 +6,7 @@ use crate::commands::HelpText;
 pub(crate) fn help<'a>() -> HelpText<'a> {
     HelpText {
         about: "Convert a capture to format 2, which keeps all of it",
+        usage: Some("wst convert < CAPTURE"),
         after_help: AFTER_HELP,
     }
 }

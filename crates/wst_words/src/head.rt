@@ -48,6 +48,7 @@ pub(crate) fn head_options<'a>(options: &ArgMatches<'a>) -> HeadOptions<'a>
 pub(crate) fn help<'a>() -> HelpText<'a> {
     HelpText {
         about: "Answer the head of an upgrade request, as a server does",
+        usage: Some("wst head [OPTIONS] < REQUEST"),
         after_help: AFTER_HELP,
     }
 }

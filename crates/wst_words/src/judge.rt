@@ -90,6 +90,7 @@ pub(crate) fn judge_options(options: &ArgMatches<'_>) -> Option<JudgeOptions>
 pub(crate) fn help<'a>() -> HelpText<'a> {
     HelpText {
         about: "Judge a capture, and print which rule the tested endpoint broke",
+        usage: Some("wst judge [OPTIONS] < CAPTURE"),
         after_help: AFTER_HELP,
     }
 }

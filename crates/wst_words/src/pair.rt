@@ -89,6 +89,7 @@ pub(crate) fn pair_options(options: &ArgMatches<'_>) -> Option<PairOptions>
 pub(crate) fn help<'a>() -> HelpText<'a> {
     HelpText {
         about: "Play moves at a joined client and server, in memory",
+        usage: Some("wst pair [OPTIONS] < MOVES"),
         after_help: AFTER_HELP,
     }
 }

@@ -88,6 +88,7 @@ pub(crate) fn report_options<'a>(options: &ArgMatches<'a>) -> Option<ReportOptio
 pub(crate) fn help<'a>() -> HelpText<'a> {
     HelpText {
         about: "Write a page, an index, a summary or JUnit XML of runs of `wst test`",
+        usage: Some("wst report [OPTIONS] < RUNS"),
         after_help: AFTER_HELP,
     }
 }

@@ -42,7 +42,7 @@ static ARGUMENTS: [Argument; 13] = [
         ..TIMEOUT
     },
     Argument {
-        help: "End connection after SECONDS [default: none]",
+        help: "End connection after SECONDS [default: no limit]",
         ..DEADLINE
     },
     WAIT,
@@ -108,6 +108,7 @@ fn options_with<'a>(options: &ArgMatches<'a>, run: RunOptions<'a>) -> Option<Sen
 pub(crate) fn help<'a>() -> HelpText<'a> {
     HelpText {
         about: "Send a script's frames to a server or a client, and print the replies",
+        usage: Some("wst send [OPTIONS] <TARGET> < SCRIPT"),
         after_help: AFTER_HELP,
     }
 }
@@ -119,7 +120,8 @@ const AFTER_HELP: &str =
   text fin=0 rsv=4 c3  no FIN; rsv: 4 RSV1, 2 RSV2, 1 RSV3; payload c3 in hex
   ping key=- -         no mask (key=37fa213d sets one), no payload
   close=1000           a close frame with this code
-  wait                 the turn ends: wait for the replies that are due
+  wait                 the turn ends: wait for echoes and pongs that are due
+                       (with --expect protocol: for the last pong)
 A text in quotes is UTF-8, with JSON's escapes; other payloads are in hex.
 
 Printed are frames sent (`>`) and received (`<`), and last who ended the

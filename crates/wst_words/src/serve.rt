@@ -123,6 +123,7 @@ pub(crate) fn serve_options<'a>(options: &ArgMatches<'a>) -> Option<ServeOptions
 pub(crate) fn help<'a>() -> HelpText<'a> {
     HelpText {
         about: "Run an echo server, to try WebSocket clients with",
+        usage: None,
         after_help: AFTER_HELP,
     }
 }

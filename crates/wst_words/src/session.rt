@@ -90,6 +90,7 @@ pub(crate) fn session_options(options: &ArgMatches<'_>) -> Option<SessionOptions
 pub(crate) fn help<'a>() -> HelpText<'a> {
     HelpText {
         about: "Make calls at one endpoint, in memory, and print its answers",
+        usage: Some("wst session [OPTIONS] < CALLS"),
         after_help: AFTER_HELP,
     }
 }

@@ -104,6 +104,7 @@ pub(crate) fn show_options(options: &ArgMatches<'_>) -> Option<ShowOptions>
 pub(crate) fn help<'a>() -> HelpText<'a> {
     HelpText {
         about: "Print the frames of a byte stream or a capture, one line each",
+        usage: Some("wst show [OPTIONS] < BYTES"),
         after_help: AFTER_HELP,
     }
 }

@@ -118,6 +118,7 @@ fn options_with<'a>(options: &ArgMatches<'a>, run: RunOptions<'a>) -> Option<Swe
 pub(crate) fn help<'a>() -> HelpText<'a> {
     HelpText {
         about: "Run every short script against a server or a client",
+        usage: None,
         after_help: AFTER_HELP,
     }
 }

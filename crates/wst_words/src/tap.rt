@@ -84,6 +84,7 @@ pub(crate) fn tap_options<'a>(options: &ArgMatches<'a>) -> Option<TapOptions<'a>
 pub(crate) fn help<'a>() -> HelpText<'a> {
     HelpText {
         about: "Forward bytes between clients and a server, and print the frames",
+        usage: None,
         after_help: AFTER_HELP,
     }
 }

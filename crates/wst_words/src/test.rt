@@ -183,6 +183,7 @@ fn options_with<'a>(
 pub(crate) fn help<'a>() -> HelpText<'a> {
     HelpText {
         about: "Run test cases against a server or a client, one connection each",
+        usage: None,
         after_help: AFTER_HELP,
     }
 }
