@@ -39,6 +39,7 @@ use Rattle.wst_clients.specs.ClientLines.{behind_for, beside_for, change_for, en
 use Rattle.wst_clients.specs.ClientLines.{lines_for, score_for, score_of_case, score_with_all, verdict_for}
 use Rattle.wst_testing.specs.Reporting.{exit_of_report, no_score, score_by}
 use Rattle.wst_testing.specs.Testing.{outcomes_in}
+use Rattle.wst_clients.specs.LateClients.{late_texts, run_count, was_run}
 use Rattle.wst_clients.specs.VisitOutcomes.{AreVisits, after_outcome, behavior_for, ends_with_outcome}
 use Rattle.wst_clients.specs.VisitOutcomes.{not_run, not_run_if, notes_of_visits, outcome_notes}
 use Rattle.wst_clients.specs.VisitOutcomes.{test_of, tests_in, tests_of}
@@ -252,17 +253,21 @@ pub visits_end : (MayBeLate : Type 0) (Comes : StandingValue → VisitOutcome �
     (record { failed = g; old = a; new = c })
 visits_end MayBeLate Comes rules n standing after next score counted old mid new failed f g a b c so is ends few count line works stands = record {
   visits = so.visits ++ next ∷ [];
-  have_all = inl (record {
-    before = so.visits;
-    earlier = standing;
-    have_come = so.have_come;
-    last = next;
-    comes = is.comes;
-    ends = ends;
-    all = refl;
-    goes_on = enough_then rules so.visits next score counted false so.counted count few;
-    stands = stands;
-  });
+  late = [];
+  have_all = inl (
+    record {
+      before = so.visits;
+      earlier = standing;
+      have_come = so.have_come;
+      last = next;
+      comes = is.comes;
+      ends = ends;
+      all = refl;
+      goes_on = enough_then rules so.visits next score counted false so.counted count few;
+      stands = stands;
+    },
+    refl,
+  );
   counted = counted_more rules so.visits next score counted so.counted count;
   told = (
     subst (λ (l : List ℕ). Appends old new l) (lines_more rules so.visits next)
@@ -270,7 +275,9 @@ visits_end MayBeLate Comes rules n standing after next score counted old mid new
         so.written line),
     works,
   );
-  noted = noted_more rules so.visits next f g a b c so.noted is.still is.noted;
+  noted = subst (λ (l : List (List ℕ)). TellsEach l (record { failed = g; old = a; new = c }))
+      (sym (append-nil (notes_of_visits rules (so.visits ++ next ∷ []))))
+      (noted_more rules so.visits next f g a b c so.noted is.still is.noted);
 }
 
 -- one with which there are enough failures
@@ -302,18 +309,26 @@ visits_enough Comes rules n standing next score counted old mid new failed f g a
   noted = noted_more rules so.visits next f g a b c so.noted is.still is.noted;
 }
 
--- none comes in time
+-- none comes in time, and that is told
 pub visits_late : (MayBeLate : Type 0) (Comes : StandingValue → VisitOutcome → Type 0) (rules : VisitRules) (n : ℕ)
-    (standing : StandingValue) (score : Score) (old new : Option (List ℕ)) (failed : Bool) (faults : Device)
-    → HasVisitedSo Comes rules n standing score old new faults → failed ≡ false → MayBeLate
-    → EndsVisits MayBeLate Comes rules standing score (record { failed = failed; old = old; new = new }) faults
-visits_late MayBeLate Comes rules n standing score old new failed faults so works late = record {
-  visits = so.visits;
-  have_all = inr (late, so.have_come);
-  counted = so.counted;
-  told = (so.written, works);
-  noted = so.noted;
-}
+    (standing : StandingValue) (score : Score) (old new : Option (List ℕ)) (failed f g : Bool)
+    (a b c : Option (List ℕ))
+    → HasVisitedSo Comes rules n standing score old new (record { failed = f; old = a; new = b }) → failed ≡ false
+    → MayBeLate → (f ≡ true → g ≡ true)
+    → TellsEach (late_texts rules.wait (run_count standing.behaviors) (length rules.cases.now))
+    (record { failed = g; old = b; new = c })
+    → EndsVisits MayBeLate Comes rules standing score (record { failed = failed; old = old; new = new })
+    (record { failed = g; old = a; new = c })
+visits_late MayBeLate Comes rules n standing score old new failed f g a b c so works may still told =
+    let late = late_texts rules.wait (run_count standing.behaviors) (length rules.cases.now) in record {
+      visits = so.visits;
+      late = late;
+      have_all = inr (may, so.have_come, refl);
+      counted = so.counted;
+      told = (so.written, works);
+      noted = each_then (notes_of_visits rules so.visits) late g a b c
+          (each_on (notes_of_visits rules so.visits) f g a b still so.noted) told;
+    }
 
 -- its line could not be written
 pub visits_stop : (Comes : StandingValue → VisitOutcome → Type 0) (rules : VisitRules) (n : ℕ) (standing : StandingValue) (next : VisitOutcome) (score : Score)
@@ -525,6 +540,22 @@ not_run_step cases behaviors n case behavior same below is gives =
     (length-take-le n cases (omega (arith, below))
     ∙ sym (length-take-le n behaviors (omega (arith, same, below))))
 
+-- and how many of the cases were run, with the next one
+pub run_step : (behaviors : List Behavior) (n : ℕ) (behavior : Behavior) (count next : ℕ)
+    → count ≡ run_count (take n behaviors) → n < length behaviors
+    → behavior ≡ get_or behaviors (n + 1 - 1) Unimplemented
+    → next ≡ (if was_run behavior then count + 1 else count) → next ≡ run_count (take (n + 1) behaviors)
+run_step behaviors n behavior count next counted below gives is =
+    let place : n + 1 - 1 ≡ n = omega arith in
+    let found : behavior ≡ get_or behaviors n Unimplemented =
+    gives ∙ ap (λ (i : ℕ). get_or behaviors i Unimplemented) place in
+    let bs : take (n + 1) behaviors ≡ take n behaviors ++ behavior ∷ [] =
+    take_more behaviors n Unimplemented below
+    ∙ ap (λ (x : Behavior). take n behaviors ++ x ∷ []) (sym found) in
+    is ∙ ap (λ (k : ℕ). if was_run behavior then k + 1 else k) counted
+    ∙ count_then was_run (take n behaviors) behavior
+    ∙ ap (λ (l : List Behavior). run_count l) (sym bs)
+
 -- and what is added of it
 pub adds_step : (telling : Telling) (cases : List Case) (behaviors : List Behavior) (n : ℕ) (case : Case)
     (behavior : Behavior) (score counted next : Score) (bytes more : List ℕ)
@@ -690,11 +721,13 @@ tests_all MayBeLate Comes rules standing score counted bytes behind old mid new 
     ∙ ap (λ (l : List ℕ). l ++ last) (sym (flat_map-append (line_for rules.telling) run more)) in
     let whole = delivers_after old mid new failed (lines_for rules.telling run) bytes (exit_of_report counted.is_failed)
     exit so.told.0 told in
-    let noted = each_then (notes_of_visits rules so.visits) (beside_for rules.telling behind) g a b c
-    (each_on (notes_of_visits rules so.visits) f g a b still so.noted) beside in
+    let notes = notes_of_visits rules so.visits ++ so.late in
+    let noted = each_then notes (beside_for rules.telling behind) g a b c (each_on notes f g a b still so.noted)
+    beside in
     inl (record {
       visits = so.visits;
       standing = standing;
+      late = so.late;
       have_all = so.have_all;
       tests = tests;
       are_tests = refl;
@@ -707,9 +740,9 @@ tests_all MayBeLate Comes rules standing score counted bytes behind old mid new 
           (subst (λ (l : List ℕ). Delivers (exit_of_report counted.is_failed) l exit
           (record { failed = failed; old = old; new = new })) text whole));
       noted = subst
-          (λ (s : Score). TellsEach (notes_of_visits rules so.visits
+          (λ (s : Score). TellsEach (notes
           ++ beside_for rules.telling (behind_for rules.telling (length rules.cases.now) s))
           (record { failed = g; old = a; new = c })) all
-          (subst (λ (l : List ℕ). TellsEach (notes_of_visits rules so.visits ++ beside_for rules.telling l)
+          (subst (λ (l : List ℕ). TellsEach (notes ++ beside_for rules.telling l)
           (record { failed = g; old = a; new = c })) is_behind noted);
     })

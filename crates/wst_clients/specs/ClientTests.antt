@@ -18,6 +18,7 @@ use Rattle.wst_testing.specs.Outcomes.{count_in}
 use Rattle.wst_testing.specs.Notes.{TellsEach}
 use Rattle.wst_clients.specs.ClientLines.{behind_for, beside_for, end_for, lines_for, score_for, score_with_all}
 use Rattle.wst_testing.specs.Reporting.{ClosesReport, StopsAtStart, exit_of_report}
+use Rattle.wst_clients.specs.LateClients.{late_texts, run_count}
 use Rattle.wst_clients.specs.VisitOutcomes.{AreVisits, after_outcome, ends_with_outcome, not_run}
 use Rattle.wst_clients.specs.VisitOutcomes.{notes_of_visits, tests_of}
 use Rattle.wst_clients.specs.Visits.{AreSomeNotes}
@@ -53,12 +54,16 @@ pub record HaveAllCome (Comes : StandingValue → VisitOutcome → Type 0) (rule
   pub goes_on : is_enough_with rules visits ≡ false
   pub stands : standing ≡ after_outcome earlier last
 
+-- what is told where the next client has not come in time, and the cases stand so
+abbrev pub late_notes_of : VisitRules → StandingValue → List (List ℕ)
+late_notes_of rules standing = late_texts rules.wait (run_count standing.behaviors) (length rules.cases.now)
+
 -- All connections of a run: the last of them ends it; or none does, and the next client, who may be waited for in vain,
--- has not come in time. That it was so is not said.
+-- has not come in time, which is told behind them.
 abbrev pub HaveBeenTaken : Type 0 → (StandingValue → VisitOutcome → Type 0) → VisitRules → List VisitOutcome →
-    StandingValue → Type 0
-HaveBeenTaken MayBeLate Comes rules visits standing =
-    HaveAllCome Comes rules visits standing ⊎ (MayBeLate × HaveCome Comes rules visits standing)
+    StandingValue → List (List ℕ) → Type 0
+HaveBeenTaken MayBeLate Comes rules visits standing late = (HaveAllCome Comes rules visits standing × (late ≡ []))
+    ⊎ (MayBeLate × HaveCome Comes rules visits standing × (late ≡ late_notes_of rules standing))
 
 -- the lines of the cases that were run were written
 abbrev pub HasToldVisits : VisitRules → List VisitOutcome → Device → Type 0
@@ -97,10 +102,11 @@ StopsVisiting Comes rules output faults =
 pub record EndsVisits (MayBeLate : Type 0) (Comes : StandingValue → VisitOutcome → Type 0) (rules : VisitRules)
     (standing : StandingValue) (score : Score) (output faults : Device) : Type 0 where
   pub visits : List VisitOutcome
-  pub have_all : HaveBeenTaken MayBeLate Comes rules visits standing
+  pub late : List (List ℕ)
+  pub have_all : HaveBeenTaken MayBeLate Comes rules visits standing late
   pub counted : score ≡ score_for rules.telling (tests_of rules visits)
   pub told : HasToldVisits rules visits output
-  pub noted : TellsEach (notes_of_visits rules visits) faults
+  pub noted : TellsEach (notes_of_visits rules visits ++ late) faults
 
 -- With the last of them, and not before, there are enough failures to end the run.
 pub record EndsEnough (Comes : StandingValue → VisitOutcome → Type 0) (rules : VisitRules) (score : Score)
@@ -134,20 +140,21 @@ RunsVisits MayBeLate Comes rules (Err fault) output faults =
 
 -- ---- a run
 
--- One of the connections ends the run, or no client has come in time. The lines of the cases that were run were
--- written, then those of the cases that no client has asked for, and what stands behind all; or a write failed at last.
--- What stands behind the cases of a document was told last.
+-- One of the connections ends the run, or no client has come in time, which is told. The lines of the cases that were
+-- run were written, then those of the cases that no client has asked for, and what stands behind all; or a write failed
+-- at last. What stands behind the cases of a document was told last.
 pub record TestsAll (MayBeLate : Type 0) (Comes : StandingValue → VisitOutcome → Type 0) (rules : VisitRules)
     (exit : Exit) (output faults : Device) : Type 0 where
   pub visits : List VisitOutcome
   pub standing : StandingValue
-  pub have_all : HaveBeenTaken MayBeLate Comes rules visits standing
+  pub late : List (List ℕ)
+  pub have_all : HaveBeenTaken MayBeLate Comes rules visits standing late
   pub tests : List (Case × Outcome)
   pub are_tests : tests ≡ tests_of rules visits ++ not_run rules.cases.now standing.behaviors
   pub told : Delivers (exit_of_report (score_for rules.telling tests).is_failed) (lines_for rules.telling tests
       ++ end_for rules.telling (behind_for rules.telling (length rules.cases.now) (score_for rules.telling tests))) exit
       output
-  pub noted : TellsEach (notes_of_visits rules visits
+  pub noted : TellsEach ((notes_of_visits rules visits ++ late)
       ++ beside_for rules.telling (behind_for rules.telling (length rules.cases.now) (score_for rules.telling tests)))
       faults
 

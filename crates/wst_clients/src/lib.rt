@@ -9,6 +9,7 @@
 mod capturing_client;
 mod client_documents;
 mod client_lines;
+mod late_clients;
 mod scripting;
 mod sending_to_client;
 mod tested_clients;

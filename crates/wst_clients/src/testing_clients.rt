@@ -18,6 +18,7 @@ ghost use Rattle.wst_clients.specs.Visits.{known_by};
 ghost use Rattle.wst_clients.specs.declared.testing_clients.VisitsEnd.TheVariants.{Ended};
 
 use crate::client_lines::{behind_for, end_for, tell_beside_for};
+use crate::late_clients::tell_late;
 use crate::tested_clients::TestedClients;
 use crate::visit_outcome::{
     ends_with, keep_outcome, outcome_of_client, report_counted, report_outcome,
@@ -77,8 +78,8 @@ pub fn test_clients<C: TestedClients, W: Write, F: Write>(
     }
 }
 
-/// Takes connections, one after the other, until one ends the run or none comes in time, and writes a line for each
-/// case that was run.
+/// Takes connections, one after the other, until one ends the run or none comes in time, which is told, and writes a
+/// line for each case that was run.
 fn run_visits<C: TestedClients, W: Write, F: Write>(
     alloc: Global,
     clients: &C,
@@ -101,7 +102,10 @@ fn run_visits<C: TestedClients, W: Write, F: Write>(
         visited += 1;
         let client = match clients.next_client(alloc) {
             Ok(client) => client,
-            Err(NoClient::TooLate) => return Ok(VisitsEnd::Ended(standing, score)),
+            Err(NoClient::TooLate) => {
+                tell_late(alloc, rules.wait, rules.cases, &standing, faults)?;
+                return Ok(VisitsEnd::Ended(standing, score));
+            }
             Err(NoClient::Never) => return Ok(VisitsEnd::Stopped),
         };
         let outcome = outcome_of_client(alloc, clients, &client, rules, &standing, faults)?;

@@ -28,7 +28,7 @@ use ws_reports::Report;
 use ws_suite::{Case, Expectation, Transcript, turns_with};
 use ws_upgrade::HeadFault;
 use ws_wire::Role;
-use wst_commands::tell;
+use wst_commands::{TimeLimit, tell};
 use wst_testing::tell_progress;
 
 /// How cases are told of.
@@ -52,6 +52,8 @@ pub struct VisitRules<'a> {
     pub budget: u64,
     /// Whether reads can wait in vain.
     pub has_timeouts: bool,
+    /// How long the next client is waited for.
+    pub wait: TimeLimit,
     /// What is expected of them.
     pub expected: Expectation,
     /// Below a verdict other than Pass it is told why, with payloads in this style, where one is named.

@@ -1,5 +1,5 @@
 -- Runs over clients at an address that end before a client comes, and scripts that were sent to one.
-use Rattle.std.proofs.Common.{◌≡◌, Bool, true, ℕ, List, IsErrAnd, Option, Some, Result, Ok, Err, ap, inl, inr, subst, sym}
+use Rattle.std.proofs.Common.{◌≡◌, Bool, true, IsErrAnd, Some, Result, Ok, Err, ap, inl, inr, subst, sym}
 use Rattle.ws_frame.specs.Devices.{Device, IsUntouched}
 use Rattle.ws_scripts.specs.Captures2.{written_capture2}
 use Rattle.ws_scripts.specs.declared.script.Case.{Case}
@@ -11,7 +11,7 @@ use Rattle.wst_commands.specs.declared.fault.Fault.{Fault}
 use Rattle.wst_commands.specs.declared.fault.Fault.TheVariants.{NoMemory}
 use Rattle.wst_clients.specs.ClientCaptures.{client_capture}
 use Rattle.wst_commands.specs.declared.time_limit.TimeLimit.{TimeLimit}
-use Rattle.wst_run.specs.ClientRuns.{AreScriptRulesOf, MayBeLate, SendsScript, TestsNone, WritesClientRun}
+use Rattle.wst_run.specs.ClientRuns.{AreScriptRulesOf, HintsBehind, MayBeLate, SendsScript, TestsNone, WritesClientRun}
 use Rattle.wst_clients.specs.ClientSends.{IsScriptedSo, ScriptsClient}
 use Rattle.wst_clients.specs.declared.scripting.ScriptRules.{ScriptRules}
 use Rattle.wst_run.specs.declared.send.SendPlan.{SendPlan}
@@ -34,7 +34,9 @@ sends_captured wait plan rules case transcript exit output faults are sent captu
       are,
       (
         transcript,
-        sent,
+        subst (λ (b : Bool). HintsBehind b plan.run.expected transcript
+            (λ (d : Device). ScriptsClient (MayBeLate wait) (IsScriptedSo rules) case (Some transcript) d) faults)
+            (sym captures) sent,
         subst (λ (b : Bool). WritesClientRun plan.style b transcript output) (sym captures) (written, works),
       ),
     )

@@ -4,12 +4,15 @@ use Rattle.std.specs.Prelude.{Err}
 use Rattle.ws_base.specs.declared.text_fault.TextFault.{TextFault}
 use Rattle.ws_base.specs.declared.text_fault.TextFault.TheVariants as text_fault
 use Rattle.ws_formats.specs.Lines.{Damages}
+use Rattle.ws_wire.specs.declared.role.Role.{Role}
 use Rattle.ws_wire.specs.declared.role.Role.TheVariants.{Client}
 use Rattle.ws_frame.specs.declared.source.DataStyle.{DataStyle}
 use Rattle.ws_frame.specs.Devices.{Device, HasBegun, HasWritten, IsUntouched}
+use Rattle.ws_lines.specs.declared.transcript_lines.Showing.{Showing}
 use Rattle.ws_reports.specs.Reports.{ReportValue}
 use Rattle.ws_scripts.specs.Captures2.{written_capture2}
 use Rattle.ws_scripts.specs.ScriptTexts.{IsScriptText, IsTextOfScript}
+use Rattle.ws_scripts.specs.declared.expectation.Expectation.{Expectation}
 use Rattle.ws_scripts.specs.declared.script.Case.{Case}
 use Rattle.ws_scripts.specs.declared.transcript.Transcript.{Transcript}
 use Rattle.wst_commands.specs.CloseCodes.{HasCodeNotes}
@@ -28,6 +31,7 @@ use Rattle.wst_commands.specs.declared.reading_whole.ReadStop.{ReadStop}
 use Rattle.wst_clients.specs.ClientCaptures.{CapturesClient, client_capture}
 use Rattle.wst_clients.specs.ClientSends.{IsScriptedSo, ScriptsClient, protocols_known}
 use Rattle.wst_clients.specs.ClientTests.{DocumentsClients, TestsClients}
+use Rattle.wst_testing.specs.Hints.{MissesEcho, missed_echo_notes}
 use Rattle.wst_testing.specs.LineWriting.{HasWrittenRun}
 use Rattle.wst_sockets.specs.Listening.{IsToldFor}
 use Rattle.wst_testing.specs.Notes.{TellsEach}
@@ -78,6 +82,7 @@ pub record AreRulesOf (plan : TestPlan) (report : ReportValue) (rules : VisitRul
   pub protocols : known_by rules ≡ plan.run.protocols
   pub budget : rules.budget ≡ plan.run.budget
   pub has_timeouts : rules.has_timeouts ≡ is_limited plan.run.timeout
+  pub wait : rules.wait ≡ plan.run.wait
   pub expected : rules.expected ≡ plan.run.expected
   pub explains : rules.explains ≡ plan.explain
   pub progress : rules.progress ≡ plan.progress
@@ -154,12 +159,27 @@ pub record AreScriptRulesOf (plan : SendPlan) (rules : ScriptRules) : Type 0 whe
   pub has_timeouts : rules.has_timeouts ≡ is_limited plan.run.timeout
   pub expected : rules.expected ≡ plan.run.expected
 
+-- how the lines of a run over a client are shown
+abbrev pub client_showing : DataStyle → Showing
+client_showing style = record { tested = Client; style = style; sent_fault = None; got_fault = None }
+
 -- the lines of the run were written, flushed, or its capture
 abbrev pub WritesClientRun : DataStyle → Bool → Transcript → Device → Type 0
-WritesClientRun style false transcript output =
-    HasWrittenRun (record { tested = Client; style = style }) transcript output
+WritesClientRun style false transcript output = HasWrittenRun (client_showing style) transcript output
 WritesClientRun style true transcript output =
     HasWritten (written_capture2 (client_capture transcript)) output × (output.failed ≡ false)
+
+-- it is told that the replies are none of an echo only where that is so; where memory lacks to find it out, it isn't
+abbrev pub MayTellMissed : Expectation → Role → Transcript → Bool → Type 0
+MayTellMissed expected tested transcript missed = (missed ≡ true) → MissesEcho expected tested transcript true
+
+-- Behind what was told of the connections it is told what to type, where an echo is expected and the replies are those
+-- of none; behind a capture it isn't.
+abbrev pub HintsBehind : Bool → Expectation → Transcript → (Device → Type 0) → Device → Type 0
+HintsBehind true expected transcript Runs faults = Runs faults
+HintsBehind false expected transcript Runs faults = (missed : Bool) × MayTellMissed expected Client transcript missed
+    × ((first : Device) × GoesBefore first faults × Runs first
+    × TellsEach (missed_echo_notes missed) (record faults { old = first.new }))
 
 -- a write failed: of a capture, where one is asked for, a beginning was written; of lines it is not said what was
 abbrev pub BreaksClientRun : TimeLimit → SendPlan → Case → Device → Device → Type 0
@@ -167,6 +187,11 @@ BreaksClientRun wait plan case output faults = (output.failed ≡ true) × ((pla
     × AreScriptRulesOf plan rules × ((transcript : Transcript)
     × ScriptsClient (MayBeLate wait) (IsScriptedSo rules) case (Some transcript) faults
     × HasBegun (written_capture2 (client_capture transcript)) output))
+
+-- inside: it was told
+abbrev pub HintsClient : Expectation → Transcript → Device → Type 0
+HintsClient expected transcript faults = (missed : Bool) × MayTellMissed expected Client transcript missed
+    × TellsEach (missed_echo_notes missed) faults
 
 -- the script was run over no connection that came, which were told of so, and nothing was written
 abbrev pub SendsToNone : TimeLimit → SendPlan → Case → Device → Device → Type 0
@@ -178,7 +203,8 @@ SendsToNone wait plan case output faults = (rules : ScriptRules) × AreScriptRul
 abbrev pub SendsScript : TimeLimit → SendPlan → Case → Result Exit Fault → Device → Device → Type 0
 SendsScript wait plan case (Ok Done) output faults = (rules : ScriptRules) × AreScriptRulesOf plan rules
     × ((transcript : Transcript)
-    × ScriptsClient (MayBeLate wait) (IsScriptedSo rules) case (Some transcript) faults
+    × HintsBehind plan.capture plan.run.expected transcript
+    (λ first. ScriptsClient (MayBeLate wait) (IsScriptedSo rules) case (Some transcript) first) faults
     × WritesClientRun plan.style plan.capture transcript output)
 SendsScript wait plan case (Ok Failed) output faults =
     BreaksClientRun wait plan case output faults ⊎ SendsToNone wait plan case output faults

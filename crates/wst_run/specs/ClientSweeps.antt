@@ -1,5 +1,5 @@
 -- Every short script as a case of clients that come to an address.
-use Rattle.std.specs.Prelude.{◌≡◌, ◌⊎◌, ℕ, ⊤, ◌+◌, false, List, [], ◌∷◌, Option, None, Result, length, string_bytes}
+use Rattle.std.specs.Prelude.{◌≡◌, ◌⊎◌, ℕ, ⊤, ◌+◌, List, [], ◌∷◌, None, Result, length, string_bytes}
 use Rattle.ws_wire.specs.declared.role.Role.TheVariants.{Client}
 use Rattle.ws_frame.specs.Devices.{Device}
 use Rattle.ws_scripts.specs.declared.script.Case.{Case}
@@ -42,6 +42,7 @@ pub record AreSweepRulesOf (plan : SweepPlan) (given : List Case) (rules : Visit
   pub protocols : known_by rules ≡ plan.run.protocols
   pub budget : rules.budget ≡ plan.run.budget
   pub has_timeouts : rules.has_timeouts ≡ is_limited plan.run.timeout
+  pub wait : rules.wait ≡ plan.run.wait
   pub expected : rules.expected ≡ plan.run.expected
   pub explains : rules.explains ≡ None
   pub progress : rules.progress ≡ plan.progress

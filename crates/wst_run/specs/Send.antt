@@ -1,15 +1,17 @@
 -- A run of `send`: the script that comes in is run over the end that the words name, and what went over the
 -- connection is written; or it is told why it is not run.
-use Rattle.std.specs.Prelude.{◌≡◌, ◌⊎◌, ℕ, true, false, List, ◌++◌, Result, Ok, Err, MatchResult, codes}
+use Rattle.std.specs.Prelude.{◌≡◌, ◌⊎◌, ℕ, Bool, true, false, List, None, Result, Ok, Err, MatchResult}
 use Rattle.ws_base.specs.declared.text_fault.TextFault.{TextFault}
 use Rattle.ws_base.specs.declared.text_fault.TextFault.TheVariants as text_fault
 use Rattle.ws_formats.specs.Lines.{Damages}
 use Rattle.ws_frame.specs.Devices.{Device, HasBegun, HasWritten, IsUntouched}
 use Rattle.ws_scripts.specs.Captures2.{written_capture2}
 use Rattle.ws_scripts.specs.ScriptTexts.{IsScriptText, IsTextOfScript}
+use Rattle.ws_scripts.specs.declared.expectation.Expectation.{Expectation}
 use Rattle.ws_scripts.specs.declared.script.Case.{Case}
 use Rattle.ws_scripts.specs.declared.transcript.Transcript.{Transcript}
 use Rattle.ws_lines.specs.declared.transcript_lines.Showing.{Showing}
+use Rattle.ws_wire.specs.declared.role.Role.{Role}
 use Rattle.wst_words.specs.declared.send.SendOptions.{SendOptions}
 use Rattle.wst_commands.specs.Devices.{Tells}
 use Rattle.wst_commands.specs.Faults.{LacksMemory, TellsFault}
@@ -20,11 +22,13 @@ use Rattle.wst_commands.specs.declared.exit.Exit.TheVariants.{Damaged, Done, Fai
 use Rattle.wst_commands.specs.declared.fault.Fault.TheVariants as fault
 use Rattle.wst_commands.specs.declared.reading_whole.ReadStop.{ReadStop}
 use Rattle.wst_commands.specs.declared.reading_whole.ReadStop.TheVariants as read
-use Rattle.wst_run.specs.ClientRuns.{GoesBefore, NotesCodes, SendsToClientAt}
+use Rattle.wst_run.specs.ClientRuns.{GoesBefore, MayTellMissed, NotesCodes, SendsToClientAt}
+use Rattle.wst_testing.specs.Hints.{missed_echo_notes}
 use Rattle.wst_testing.specs.LineWriting.{HasWrittenRun}
-use Rattle.wst_sockets.specs.Meetings.{miss_line}
-use Rattle.wst_testing.specs.Outcomes.{outcome_words}
+use Rattle.wst_testing.specs.Notes.{TellsEach}
+use Rattle.wst_testing.specs.Outcomes.{refused_lines}
 use Rattle.wst_testing.specs.Testing.{run_capture}
+use Rattle.wst_testing.specs.Tried.{missed_notes}
 use Rattle.ws_handshake.specs.declared.probe_end.HeadRefusal.{HeadRefusal}
 use Rattle.wst_testing.specs.RunPlans.{IsRunPlan, CanNotRun, TellsRefusal, tested_role}
 use Rattle.wst_testing.specs.declared.run_plans.UsualTimes.TheVariants.{OfScript}
@@ -34,7 +38,6 @@ use Rattle.wst_testing.specs.declared.run_plans.TestedEnd.{TestedEnd}
 use Rattle.wst_testing.specs.declared.run_plans.TestedEnd.TheVariants.{Clients, Memory, Server}
 use Rattle.wst_sockets.specs.declared.meeting.Meeting.{Meeting}
 use Rattle.wst_sockets.specs.declared.meeting.Meeting.TheVariants.{NoConnection, Ran, Refused}
-use Rattle.wst_testing.specs.declared.outcome.Outcome.TheVariants.{HeadRefused}
 use Rattle.wst_run.specs.declared.send.SendPlan.{SendPlan}
 use Rattle.wst_run.specs.declared.send.SendStop.{SendStop}
 use Rattle.wst_run.specs.declared.send.SendStop.TheVariants as stop
@@ -51,7 +54,8 @@ pub record IsSendPlan (options : SendOptions) (plan : SendPlan) : Type 0 where
 
 -- how the lines of a plan are shown
 abbrev pub send_showing : SendPlan → Showing
-send_showing plan = record { tested = tested_role plan.run.tested; style = plan.style }
+send_showing plan =
+    record { tested = tested_role plan.run.tested; style = plan.style; sent_fault = None; got_fault = None }
 
 -- the lines of a run were written, flushed, or its capture, with the key under which frames without one were masked
 abbrev pub WritesRun : SendPlan → Transcript → Device → Type 0
@@ -76,10 +80,17 @@ StopsSending Meets plan case (stop.Refused refusal) output = Meets case (Refused
 StopsSending Meets plan case (stop.NoConnection why) output = Meets case (NoConnection why) × IsUntouched output
 StopsSending Meets plan case stop.NoMemory output = (plan.capture ≡ true) → IsUntouched output
 
--- the script was run over one of the ends that meet cases so, and that was written; or why not
-abbrev pub SendsCase : (Case → Meeting → Type 0) → SendPlan → Case → Result (Unit {0}) SendStop → Device → Type 0
+-- It may be told that the replies are none of an echo; behind a capture that is not asked.
+abbrev pub MissesEchoIn : Bool → Expectation → Role → Transcript → Bool → Type 0
+MissesEchoIn true expected tested transcript missed = missed ≡ false
+MissesEchoIn false expected tested transcript missed = MayTellMissed expected tested transcript missed
+
+-- the script was run over one of the ends that meet cases so, that was written, and whether it misses an echo; or why
+-- not
+abbrev pub SendsCase : (Case → Meeting → Type 0) → SendPlan → Case → Result Bool SendStop → Device → Type 0
 SendsCase Meets plan case ended output = MatchResult ended
-    (λ _. (transcript : Transcript) × Meets case (Ran transcript) × WritesRun plan transcript output)
+    (λ missed. (transcript : Transcript) × Meets case (Ran transcript) × WritesRun plan transcript output
+    × MissesEchoIn plan.capture plan.run.expected (tested_role plan.run.tested) transcript missed)
     (λ why. StopsSending Meets plan case why output)
 
 -- what stops a text that is damaged at this line: what is wrong there is told, or memory ran out for it
@@ -94,14 +105,14 @@ IsScriptStop text text_fault.NoMemory why = why ≡ stop.NoMemory
 -- The text is a script: remarks on it were told, and it was sent so; or memory ran out for them, and nothing was told
 -- or written.
 abbrev pub SendsScriptText :
-    (Case → Meeting → Type 0) → SendPlan → Case → List ℕ → Result (Unit {0}) SendStop → Device → Device → Type 0
+    (Case → Meeting → Type 0) → SendPlan → Case → List ℕ → Result Bool SendStop → Device → Device → Type 0
 SendsScriptText Meets plan case text ended output faults =
     (NotesCodes text faults × SendsCase Meets plan case ended output)
     ⊎ ((ended ≡ Err stop.NoMemory) × IsUntouched output × IsUntouched faults)
 
 -- the text is a script, which was sent so; or it is none, and nothing was written or told
 abbrev pub SendsText :
-    (Case → Meeting → Type 0) → SendPlan → List ℕ → Result (Unit {0}) SendStop → Device → Device → Type 0
+    (Case → Meeting → Type 0) → SendPlan → List ℕ → Result Bool SendStop → Device → Device → Type 0
 SendsText Meets plan text ended output faults =
     ((case : Case) × IsScriptText case text × SendsScriptText Meets plan case text ended output faults)
     ⊎ ((fault : TextFault) × Damages IsTextOfScript fault text
@@ -113,7 +124,7 @@ input_stop read.NoMemory = stop.NoMemory
 
 -- the input was read whole, and sent so; or it could not be read, and nothing was written or told
 abbrev pub SendsInput :
-    (Case → Meeting → Type 0) → SendPlan → Result (Unit {0}) SendStop → Device → Device → Device → Type 0
+    (Case → Meeting → Type 0) → SendPlan → Result Bool SendStop → Device → Device → Device → Type 0
 SendsInput Meets plan ended input output faults =
     ((text : List ℕ) × ReadsAll text input × SendsText Meets plan text ended output faults)
     ⊎ ((why : ReadStop) × StopsReading why input × (ended ≡ Err (input_stop why)) × IsUntouched output
@@ -121,25 +132,26 @@ SendsInput Meets plan ended input output faults =
 
 -- ---- what is told on the fault output, and the exit
 
+-- the answer of a server is to be refused: with its status, where that is why
 abbrev pub TellsRefused : HeadRefusal → Exit → Device → Type 0
 TellsRefused refusal exit faults =
-    ((exit ≡ Damaged) × Tells (outcome_words (HeadRefused refusal) ++ codes "\n") faults) ⊎ LacksMemory exit faults
+    ((exit ≡ Damaged) × Tells (refused_lines refusal) faults) ⊎ LacksMemory exit faults
 
-abbrev pub TellsSendEnd : Result (Unit {0}) SendStop → Exit → Device → Type 0
-TellsSendEnd (Ok _) exit faults = (exit ≡ Done) × IsUntouched faults
-TellsSendEnd (Err stop.Device) exit faults = (exit ≡ Failed) × IsUntouched faults
-TellsSendEnd (Err (stop.NotAStep line damage)) exit faults = TellsFault (fault.NotAStep line damage) exit faults
-TellsSendEnd (Err (stop.Refused refusal)) exit faults = TellsRefused refusal exit faults
-TellsSendEnd (Err (stop.NoConnection why)) exit faults = (exit ≡ Failed) × Tells (miss_line why) faults
-TellsSendEnd (Err stop.NoMemory) exit faults = LacksMemory exit faults
+abbrev pub TellsSendEnd : TestedEnd → Result Bool SendStop → Exit → Device → Type 0
+TellsSendEnd end (Ok missed) exit faults = (exit ≡ Done) × TellsEach (missed_echo_notes missed) faults
+TellsSendEnd end (Err stop.Device) exit faults = (exit ≡ Failed) × IsUntouched faults
+TellsSendEnd end (Err (stop.NotAStep line damage)) exit faults = TellsFault (fault.NotAStep line damage) exit faults
+TellsSendEnd end (Err (stop.Refused refusal)) exit faults = TellsRefused refusal exit faults
+TellsSendEnd end (Err (stop.NoConnection why)) exit faults = (exit ≡ Failed) × TellsEach (missed_notes end why) faults
+TellsSendEnd end (Err stop.NoMemory) exit faults = LacksMemory exit faults
 
 -- ---- a run
 
 -- the plan is carried out over ends that meet cases so, and how that ended is told behind what was told before
 abbrev pub RunsSendPlan : (Case → Meeting → Type 0) → SendPlan → Exit → Device → Device → Device → Type 0
-RunsSendPlan Meets plan exit input output faults = (ended : Result (Unit {0}) SendStop) × (first : Device)
+RunsSendPlan Meets plan exit input output faults = (ended : Result Bool SendStop) × (first : Device)
     × GoesBefore first faults × SendsInput Meets plan ended input output first
-    × TellsSendEnd ended exit (record faults { old = first.new })
+    × TellsSendEnd plan.run.tested ended exit (record faults { old = first.new })
 
 -- the plan is carried out over this end
 abbrev pub SendsOver : TestedEnd → SendPlan → Exit → Device → Device → Device → Type 0

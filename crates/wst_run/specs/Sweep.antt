@@ -73,7 +73,8 @@ sweep_rules_of plan = record {
 -- the plan is carried out over ends that meet cases so, and how that ended is told behind what was told before
 abbrev pub RunsSweepPlan : (Case → Meeting → Type 0) → SweepPlan → Exit → Device → Device → Type 0
 RunsSweepPlan Meets plan exit output faults = (ended : Result Exit RunStop) × (held : Option (List ℕ))
-    × SweepsScripts Meets (sweep_rules_of plan) ended output × TellsSweepEnd ended exit (record faults { old = held })
+    × SweepsScripts Meets (sweep_rules_of plan) ended output × TellsSweepEnd plan.run.tested ended exit
+    (record faults { old = held })
 
 -- the plan is carried out over this end
 abbrev pub SweepsOver : TestedEnd → SweepPlan → Exit → Device → Device → Type 0

@@ -120,7 +120,7 @@ pub record ReportsCases (Meets : Case → Meeting → Type 0) (plan : TestPlan) 
   pub started : HasWritten (start_text report plan.target.now) (record output { new = begun })
   pub failed : Bool
   pub behind : Option (List ℕ)
-  pub runs : RunsCases Meets (rules_of plan) report plan.cases.items ended
+  pub runs : RunsCases Meets (rules_of plan) report plan.cases.items plan.run.tested ended
       (record { failed = failed; old = begun; new = behind }) faults
   pub closes : ClosesReport report ended failed (record output { old = behind })
 

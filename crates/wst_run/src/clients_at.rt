@@ -8,26 +8,27 @@ ghost use Rattle.ws_scripts.specs.Scripts.{CanBeRun};
 ghost use Rattle.ws_upgrade.specs.Protocols.{AreOffers};
 ghost use Rattle.wst_commands.specs.Devices.{StaysFailed};
 ghost use Rattle.wst_run.specs.ClientRuns.{AreRulesOf, AreScriptRulesOf, CapturesOrNone, DocumentsOrNone};
-ghost use Rattle.wst_run.specs.ClientRuns.{IsDamageFault, SendsAt, SendsInputAt, SendsScript};
+ghost use Rattle.wst_run.specs.ClientRuns.{HintsClient, IsDamageFault, SendsAt, SendsInputAt, SendsScript};
 ghost use Rattle.wst_run.specs.ClientRuns.{SendsTextAt, SendsToClientAt, TestsAt, TestsBehind, TestsClientsAt};
-ghost use Rattle.wst_run.specs.ClientRuns.{TestsToldAt};
+ghost use Rattle.wst_run.specs.ClientRuns.{TestsToldAt, client_showing};
 ghost use Rattle.wst_clients.specs.ClientSends.{protocols_known};
+ghost use Rattle.wst_testing.specs.LineWriting.{HasToldMarked};
 ghost use Rattle.wst_testing.specs.Notes.{TellsEach};
 ghost use Rattle.wst_sockets.specs.Accepting.{client_wait};
 ghost use Rattle.wst_sockets.specs.Serve.{listening_line};
 ghost use Rattle.wst_run.specs.Test.{CanBeTested};
 ghost use Rattle.wst_clients.specs.Visits.{known_by};
 
-use crate::send::{SendPlan, note_codes};
+use crate::send::{SendPlan, missed_echo, note_codes};
 use crate::test::TestPlan;
 use std::alloc::Global;
 use std::io::{Read, Write};
 use ws_base::{NoMemory, TextFault};
 use ws_connection::Silent;
-use ws_frame::Watched;
-use ws_lines::{Showing, TranscriptLines};
+use ws_frame::{DataStyle, Watched};
+use ws_lines::Showing;
 use ws_reports::Report;
-use ws_suite::{Case, read_script};
+use ws_suite::{Case, Expectation, Transcript, read_script};
 use ws_wire::Role;
 use wst_clients::{
     ScriptRules, Telling, VisitRules, capture_client, document_clients, script_client, test_clients,
@@ -36,7 +37,7 @@ use wst_commands::{Exit, Fault, ReadStop, deliver, end_run, read_whole, step_dam
 use wst_sockets::{
     ListenerClients, Network, Waits, listen, listening_line, tell_listening, told_address,
 };
-use wst_testing::{LineStop, LineWriter, RunPlan, capture_text};
+use wst_testing::{LineStop, LineWriter, MarkedLines, RunPlan, capture_text, tell_missed_echo};
 
 /// Listens at an address, which is told in a line, with the port that the system chose in the place of a port 0, and
 /// tests the clients that come, as a plan asks, and tells of them as a report does. Where a capture or a document is
@@ -210,6 +211,7 @@ fn visit_rules<'a>(plan: &'a TestPlan<'_>, report: &'a Report) -> VisitRules<'a>
         protocols: plan.run.protocols.as_slice(),
         budget: plan.run.budget,
         has_timeouts: plan.run.timeout.is_limited(),
+        wait: plan.run.wait,
         expected: plan.run.expected,
         explains: plan.explain,
         progress: plan.progress,
@@ -402,19 +404,66 @@ fn show_script<N: Network, W: Write, F: Write>(
         (watched W.contents writer.old writer.new) (watched F.contents faults.old faults.new) }
     ensures still { StaysFailed faults.old faults.new }
 {
+    let mut parts = MarkedLines::new(alloc, client_showing(plan.style));
+    script_told(alloc, clients, plan, case, &mut parts, writer, faults)
+}
+
+/// Does that with the lines of a transcript of which no turn has begun.
+fn script_told<N: Network, W: Write, F: Write>(
+    alloc: Global,
+    clients: &ListenerClients<'_, N, N::Listener>,
+    plan: &SendPlan<'_>,
+    case: &Case,
+    parts: &mut MarkedLines,
+    writer: &mut Watched<W>,
+    faults: &mut Watched<F>,
+) -> Result<Exit, Fault>
+    requires writer_works { has_failed writer.old ≡ false }
+    requires can { CanBeRun case.now }
+    requires shows { plan.now.capture ≡ false }
+    requires begun { HasToldMarked (client_showing plan.now.style) parts.old [] [] }
+    ensures sends { SendsScript (client_wait clients.now) plan.now case.now result
+        (watched W.contents writer.old writer.new) (watched F.contents faults.old faults.new) }
+    ensures still { StaysFailed faults.old faults.new }
+{
     let rules = script_rules(plan);
-    let showing = Showing {
-        tested: Role::Client,
-        style: plan.style,
-    };
-    let mut parts = TranscriptLines::new(alloc, showing);
-    let mut lines = LineWriter::new(alloc, showing, &mut parts, writer);
+    let showing = client_showing(plan.style);
+    let mut lines = LineWriter::new(alloc, showing, parts, writer);
     match script_client(alloc, clients, &rules, case, &mut lines, faults) {
-        Ok(Some(_)) => Ok(Exit::Done),
+        Ok(Some(transcript)) => {
+            hint_client(alloc, plan.run.expected, &transcript, faults);
+            Ok(Exit::Done)
+        }
         Ok(None) => Ok(Exit::Failed),
         Err(LineStop::Output) if writer.failed() => Ok(Exit::Failed),
         Err(LineStop::Output | LineStop::NoMemory) => Err(Fault::NoMemory),
     }
+}
+
+/// How the lines of a run over a client are shown.
+fn client_showing(style: DataStyle) -> Showing
+    ensures { result ≡ client_showing style }
+{
+    Showing {
+        tested: Role::Client,
+        style,
+        sent_fault: None,
+        got_fault: None,
+    }
+}
+
+/// Tells what to type, where an echo is expected and the replies of a client are those of none.
+fn hint_client<F: Write>(
+    alloc: Global,
+    expected: Expectation,
+    transcript: &Transcript,
+    faults: &mut Watched<F>,
+)
+    ensures hints { HintsClient expected transcript.now (watched F.contents faults.old faults.new) }
+    ensures still { StaysFailed faults.old faults.new }
+{
+    let missed = missed_echo(alloc, Role::Client, expected, transcript);
+    tell_missed_echo(missed, faults);
 }
 
 /// How a script of a plan is sent.

@@ -1,14 +1,16 @@
 //! The command `send`: what is to be run, and its run over an end. Its lines are told in docs/FORMATS.md.
 
-ghost use Rattle.std.specs.Prelude.{◌≡◌, MatchResult, OnErr, OnOk, true, false};
+ghost use Rattle.std.specs.Prelude.{◌≡◌, [], MatchResult, OnErr, OnOk, true, false};
 ghost use Rattle.ws_frame.specs.Devices.{watched};
 ghost use Rattle.ws_frame.specs.Watching.{has_failed};
 ghost use Rattle.ws_scripts.specs.Scripts.{CanBeRun};
 ghost use Rattle.wst_testing.specs.RunPlans.{CanNotRun};
 ghost use Rattle.wst_run.specs.Send.{IsSendPlan, RunsSendPlan, SendsCase, SendsInput, SendsOver, SendsText};
 ghost use Rattle.wst_commands.specs.Devices.{StaysFailed};
-ghost use Rattle.wst_run.specs.ClientRuns.{NotesCodes};
-ghost use Rattle.wst_run.specs.Send.{IsDamageStop, TellsRefused, TellsSendEnd};
+ghost use Rattle.wst_run.specs.ClientRuns.{MayTellMissed, NotesCodes};
+ghost use Rattle.wst_run.specs.Send.{IsDamageStop, TellsRefused, TellsSendEnd, send_showing};
+ghost use Rattle.wst_testing.specs.LineWriting.{HasToldMarked};
+ghost use Rattle.wst_run.specs.declared.send.SendStop.TheVariants as stop;
 
 use crate::clients_at::send_to_clients_at;
 use std::alloc::Global;
@@ -16,16 +18,17 @@ use std::io::{Read, Write};
 use ws_base::{NoMemory, TextFault};
 use ws_connection::{HeadRefusal, Silent};
 use ws_frame::{DataStyle, Watched, WriteFault, write_whole};
-use ws_lines::{Showing, TranscriptLines};
-use ws_suite::{Case, read_script};
+use ws_lines::Showing;
+use ws_suite::{Case, Expectation, Transcript, read_script};
+use ws_wire::Role;
 use wst_commands::{
     Exit, Fault, ReadStop, StepDamage, code_notes, read_whole, step_damage, tell, tell_fault,
 };
 use wst_network::Connector;
 use wst_sockets::{ConnectFault, Meeting, Network};
 use wst_testing::{
-    CaseServer, End, LineStop, LineWriter, Outcome, Refusal, RunPlan, UsualTimes, capture_text,
-    plan_run,
+    CaseServer, End, LineStop, LineWriter, MarkedLines, Refusal, RunPlan, TestedEnd, UsualTimes,
+    capture_text, misses_echo, plan_run, refused_lines, tell_missed, tell_missed_echo,
 };
 use wst_words::SendOptions;
 
@@ -124,10 +127,11 @@ pub fn send_to<S: CaseServer, R: Read, W: Write, F: Write>(
         (watched F.contents faults.old faults.new) }
 {
     let ended = send_input(alloc, server, plan, reader, writer, faults);
-    tell_end(alloc, ended, faults)
+    tell_end(alloc, ended, &plan.run.tested, faults)
 }
 
-/// Reads the input whole, and runs the script that it is.
+/// Reads the input whole, and runs the script that it is. The answer says whether an echo is expected, and the replies
+/// that were shown are none of one.
 fn send_input<S: CaseServer, R: Read, W: Write, F: Write>(
     alloc: Global,
     server: &S,
@@ -135,7 +139,7 @@ fn send_input<S: CaseServer, R: Read, W: Write, F: Write>(
     reader: &mut Watched<R>,
     writer: &mut Watched<W>,
     faults: &mut Watched<F>,
-) -> Result<(), SendStop>
+) -> Result<bool, SendStop>
     requires reader_works { has_failed reader.old ≡ false }
     requires writer_works { has_failed writer.old ≡ false }
     ensures { SendsInput (S.meets_told server.now plan.now.run.key) plan.now result
@@ -157,7 +161,7 @@ fn send_text<S: CaseServer, W: Write, F: Write>(
     text: &[u8],
     writer: &mut Watched<W>,
     faults: &mut Watched<F>,
-) -> Result<(), SendStop>
+) -> Result<bool, SendStop>
     requires { has_failed writer.old ≡ false }
     ensures { SendsText (S.meets_told server.now plan.now.run.key) plan.now text.now result
         (watched W.contents writer.old writer.new) (watched F.contents faults.old faults.new) }
@@ -194,7 +198,7 @@ fn send_case<S: CaseServer, W: Write>(
     plan: &SendPlan<'_>,
     case: &Case,
     writer: &mut Watched<W>,
-) -> Result<(), SendStop>
+) -> Result<bool, SendStop>
     requires works { has_failed writer.old ≡ false }
     requires runs { CanBeRun case.now }
     ensures { SendsCase (S.meets_told server.now plan.now.run.key) plan.now case.now result
@@ -224,7 +228,7 @@ fn send_captured<S: CaseServer, W: Write>(
     plan: &SendPlan<'_>,
     case: &Case,
     writer: &mut Watched<W>,
-) -> Result<(), SendStop>
+) -> Result<bool, SendStop>
     requires works { has_failed writer.old ≡ false }
     requires runs { CanBeRun case.now }
     requires captures { plan.now.capture ≡ true }
@@ -236,7 +240,7 @@ fn send_captured<S: CaseServer, W: Write>(
             let tested = plan.run.tested.role();
             let text = capture_text(alloc, tested, plan.run.key, transcript)?;
             write_whole(writer, text.as_slice())?;
-            Ok(())
+            Ok(false)
         }
         Meeting::Refused(refusal) => Err(SendStop::Refused(refusal)),
         Meeting::NoConnection(why) => Err(SendStop::NoConnection(why)),
@@ -252,21 +256,39 @@ fn send_shown<S: CaseServer, W: Write>(
     plan: &SendPlan<'_>,
     case: &Case,
     writer: &mut Watched<W>,
-) -> Result<(), SendStop>
+) -> Result<bool, SendStop>
     requires works { has_failed writer.old ≡ false }
     requires runs { CanBeRun case.now }
     requires shows { plan.now.capture ≡ false }
     ensures { SendsCase (S.meets_told server.now plan.now.run.key) plan.now case.now result
         (watched W.contents writer.old writer.new) }
 {
-    let showing = Showing {
-        tested: plan.run.tested.role(),
-        style: plan.style,
-    };
-    let mut parts = TranscriptLines::new(alloc, showing);
-    let mut lines = LineWriter::new(alloc, showing, &mut parts, writer);
+    let mut parts = MarkedLines::new(alloc, shown_so(plan));
+    send_told(alloc, server, plan, case, &mut parts, writer)
+}
+
+/// Does that with the lines of a transcript of which no turn has begun.
+fn send_told<S: CaseServer, W: Write>(
+    alloc: Global,
+    server: &S,
+    plan: &SendPlan<'_>,
+    case: &Case,
+    parts: &mut MarkedLines,
+    writer: &mut Watched<W>,
+) -> Result<bool, SendStop>
+    requires works { has_failed writer.old ≡ false }
+    requires runs { CanBeRun case.now }
+    requires shows { plan.now.capture ≡ false }
+    requires begun { HasToldMarked (send_showing plan.now) parts.old [] [] }
+    ensures { SendsCase (S.meets_told server.now plan.now.run.key) plan.now case.now result
+        (watched W.contents writer.old writer.new) }
+{
+    let showing = shown_so(plan);
+    let mut lines = LineWriter::new(alloc, showing, parts, writer);
     match server.run_told(alloc, case, plan.run.key, &mut lines) {
-        Ok(Meeting::Ran(_)) => Ok(()),
+        Ok(Meeting::Ran(transcript)) => {
+            Ok(missed_echo(alloc, showing.tested, plan.run.expected, &transcript))
+        }
         Ok(Meeting::Refused(refusal)) => Err(SendStop::Refused(refusal)),
         Ok(Meeting::NoConnection(why)) => Err(SendStop::NoConnection(why)),
         Err(LineStop::Output) if writer.failed() => Err(SendStop::Device),
@@ -274,35 +296,70 @@ fn send_shown<S: CaseServer, W: Write>(
     }
 }
 
-/// Tells how a run ended, where there is something to tell, and answers the exit that it stands for.
-fn tell_end<F: Write>(alloc: Global, ended: Result<(), SendStop>, faults: &mut Watched<F>) -> Exit
-    ensures told { TellsSendEnd ended result (watched F.contents faults.old faults.new) }
+/// How the lines of a plan are shown.
+fn shown_so(plan: &SendPlan<'_>) -> Showing
+    ensures { result ≡ send_showing plan.now }
+{
+    Showing {
+        tested: plan.run.tested.role(),
+        style: plan.style,
+        sent_fault: None,
+        got_fault: None,
+    }
+}
+
+/// Whether it is told that an echo is expected and the replies are none of one. It is not where memory lacks to find
+/// that out: the run is whole without it.
+pub(crate) fn missed_echo(
+    alloc: Global,
+    tested: Role,
+    expected: Expectation,
+    transcript: &Transcript,
+) -> bool
+    ensures { MayTellMissed expected tested transcript.now result }
+{
+    match misses_echo(alloc, tested, expected, transcript) {
+        Ok(missed) => missed,
+        Err(_) => false,
+    }
+}
+
+/// Tells how a run over this end ended, where there is something to tell, and answers the exit that it stands for.
+fn tell_end<F: Write>(
+    alloc: Global,
+    ended: Result<bool, SendStop>,
+    tested: &TestedEnd<'_>,
+    faults: &mut Watched<F>,
+) -> Exit
+    ensures told { TellsSendEnd tested.now ended result (watched F.contents faults.old faults.new) }
     ensures still { StaysFailed faults.old faults.new }
 {
     match ended {
-        Ok(()) => Exit::Done,
+        Ok(missed) => {
+            tell_missed_echo(missed, faults);
+            Exit::Done
+        }
         Err(SendStop::Device) => Exit::Failed,
         Err(SendStop::NotAStep(line, damage)) => {
             tell_fault(alloc, Fault::NotAStep(line, damage), faults)
         }
         Err(SendStop::Refused(refusal)) => tell_refused(alloc, refusal, faults),
         Err(SendStop::NoConnection(why)) => {
-            tell(why.line(), faults);
+            tell_missed(tested, why, faults);
             Exit::Failed
         }
         Err(SendStop::NoMemory) => tell_fault(alloc, Fault::NoMemory, faults),
     }
 }
 
-/// Tells that the server's answer to the request is to be refused.
+/// Tells that the server's answer to the request is to be refused, and its status, where that is why.
 fn tell_refused<F: Write>(alloc: Global, refusal: HeadRefusal, faults: &mut Watched<F>) -> Exit
     ensures told { TellsRefused refusal result (watched F.contents faults.old faults.new) }
     ensures still { StaysFailed faults.old faults.new }
 {
-    let outcome = Outcome::HeadRefused(refusal);
-    match format!(in alloc; "{outcome}\n") {
-        Ok(line) => {
-            tell(line.as_bytes(), faults);
+    match refused_lines(alloc, refusal) {
+        Ok(lines) => {
+            tell(lines.as_bytes(), faults);
             Exit::Damaged
         }
         Err(_) => tell_fault(alloc, Fault::NoMemory, faults),

@@ -126,7 +126,7 @@ pub fn sweep_over<S: CaseServer, W: Write, F: Write>(
         (watched W.contents writer.old writer.new) (watched F.contents faults.old faults.new) }
 {
     let ended = sweep_scripts(alloc, server, rules_of(plan), writer, faults);
-    tell_sweep_end(alloc, ended, faults)
+    tell_sweep_end(alloc, ended, &plan.run.tested, faults)
 }
 
 /// How the scripts of a plan are run.

@@ -80,6 +80,7 @@ fn sweep_rules<'a>(plan: &'a SweepPlan<'_>, cases: &'a [Case]) -> VisitRules<'a>
         protocols: plan.run.protocols.as_slice(),
         budget: plan.run.budget,
         has_timeouts: plan.run.timeout.is_limited(),
+        wait: plan.run.wait,
         expected: plan.run.expected,
         explains: None,
         progress: plan.progress,

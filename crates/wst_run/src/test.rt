@@ -132,6 +132,7 @@ fn report_cases<S: CaseServer, W: Write, F: Write>(
         rules,
         report,
         plan.cases.as_slice(),
+        &plan.run.tested,
         writer,
         faults,
     );

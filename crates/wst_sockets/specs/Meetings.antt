@@ -20,5 +20,7 @@ miss_line why.NoSuchHost =
 miss_line why.Refused = codes "no connection: refused\n"
 miss_line why.Unreachable = codes "no connection: unreachable\n"
 miss_line why.TimedOut = codes "no connection: timed out\n"
+miss_line why.NoAnswer =
+    codes "no connection: timed out\n  connected, but no complete answer to the request in time\n"
 miss_line why.ClosedBeforeAnswer = codes "no connection: closed before the answer\n"
 miss_line why.Failed = codes "no connection: failed\n"

@@ -15,8 +15,10 @@ pub enum ConnectFault {
     Refused,
     /// No way leads to the host.
     Unreachable,
-    /// The connection was not made in time, or for so long no byte of the answer came.
+    /// The connection was not made in time.
     TimedOut,
+    /// The connection was made, and the answer was not whole in time.
+    NoAnswer,
     /// The server ended the connection before its answer was whole.
     ClosedBeforeAnswer,
     /// For another reason, want of memory for the look-up among them.
@@ -34,6 +36,8 @@ impl ConnectFault {
             ConnectFault::Refused => b"no connection: refused\n",
             ConnectFault::Unreachable => b"no connection: unreachable\n",
             ConnectFault::TimedOut => b"no connection: timed out\n",
+            ConnectFault::NoAnswer =>
+                b"no connection: timed out\n  connected, but no complete answer to the request in time\n",
             ConnectFault::ClosedBeforeAnswer => b"no connection: closed before the answer\n",
             ConnectFault::Failed => b"no connection: failed\n",
         }

@@ -10,4 +10,5 @@ pub mod TargetLemmas
 pub mod LoopLemmas
 pub mod ObserverLemmas
 pub mod LineLemmas
+pub mod MarkedTellings
 pub mod SweepLemmas

@@ -11,11 +11,12 @@ use Rattle.ws_frame.specs.declared.watching.Watched.{Watched}
 use Rattle.ws_scripts.specs.declared.transcript.Turn.{Turn}
 use Rattle.ws_scripts.specs.declared.transcript.Ended.{Ended}
 use Rattle.ws_scripts.specs.declared.transcript.Transcript.{Transcript}
-use Rattle.ws_lines.specs.Telling.{HasToldTurns, TellsEnd, TellsGot, TellsTurn, begun_turn, with_got}
+use Rattle.ws_lines.specs.Telling.{begun_turn, with_got}
 use Rattle.ws_lines.specs.declared.transcript_lines.Showing.{Showing}
-use Rattle.ws_lines.specs.declared.transcript_lines.TranscriptLines.{TranscriptLines}
-use Rattle.wst_testing.specs.LineWriting.{AreCounted, HasWrittenRun, HasWrittenTurns}
+use Rattle.wst_testing.specs.LineWriting.{AreCounted, BeginsMarked, EndsMarked, GetsMarked, HasToldMarked}
+use Rattle.wst_testing.specs.LineWriting.{HasWrittenRun, HasWrittenTurns}
 use Rattle.wst_testing.specs.declared.line_writer.Places.{Places}
+use Rattle.wst_testing.specs.declared.marked_lines.MarkedLines.{MarkedLines}
 
 -- how long one direction is with one turn more
 one_longer : (bytes : Turn → List ℕ) (turns : List Turn) (turn : Turn)
@@ -28,13 +29,13 @@ abbrev device : Bool → Option (List ℕ) → Option (List ℕ) → Device
 device failed old new = record { failed = failed; old = old; new = new }
 
 -- a turn more
-pub turn_written : (showing : Showing) (old new : TranscriptLines) (was now : Places) (turns : List Turn) (sent : List ℕ) (f works g : Bool)
+pub turn_written : (showing : Showing) (old new : MarkedLines) (was now : Places) (turns : List Turn) (sent : List ℕ) (f works g : Bool)
     (a b c d : Option (List ℕ)) → g ≡ false → HasWrittenTurns showing old was turns (device f a b)
-    → TellsTurn old new sent (device works b c) (Ok tt) → Keeps c d → now.turns ≡ was.turns + 1
+    → BeginsMarked old new sent (device works b c) → Keeps c d → now.turns ≡ was.turns + 1
     → now.sent ≡ was.sent + length sent → now.got ≡ was.got
     → HasWrittenTurns showing new now (turns ++ record { sent = sent; got = [] } ∷ []) (device g a d)
 turn_written showing old new was now turns sent f works flushed a b c d fine_now h tells kept t s g =
-    let (more, appends, (fine, told)) = tells showing turns h.written h.told in
+    let (more, appends, fine, told) = tells showing turns h.written h.told in
     let turn : Turn = begun_turn sent in
     record {
       written = h.written ++ more;
@@ -49,14 +50,14 @@ turn_written showing old new was now turns sent f works flushed a b c d fine_now
     }
 
 -- more bytes in the last turn
-pub got_written : (showing : Showing) (old new : TranscriptLines) (was now : Places) (turns : List Turn) (turn : Turn) (piece : List ℕ)
+pub got_written : (showing : Showing) (old new : MarkedLines) (was now : Places) (turns : List Turn) (turn : Turn) (piece : List ℕ)
     (f works g : Bool) (a b c d : Option (List ℕ)) → g ≡ false
     → HasWrittenTurns showing old was (turns ++ turn ∷ []) (device f a b)
-    → TellsGot old new piece (device works b c) (Ok tt) → Keeps c d → now.turns ≡ was.turns → now.sent ≡ was.sent
+    → GetsMarked old new piece (device works b c) → Keeps c d → now.turns ≡ was.turns → now.sent ≡ was.sent
     → now.got ≡ was.got + length piece
     → HasWrittenTurns showing new now (turns ++ record { sent = turn.sent; got = turn.got ++ piece } ∷ []) (device g a d)
 got_written showing old new was now turns turn piece f works flushed a b c d fine_now h tells kept t s g =
-    let (more, appends, (fine, told)) = tells showing turns turn h.written h.told in
+    let (more, appends, fine, told) = tells showing turns turn h.written h.told in
     let next : Turn = with_got turn piece in
     record {
       written = h.written ++ more;
@@ -71,19 +72,25 @@ got_written showing old new was now turns turn piece f works flushed a b c d fin
     }
 
 -- the end
-pub run_written : (showing : Showing) (lines : TranscriptLines) (places : Places) (turns : List Turn) (ended : Ended) (f works g : Bool)
+pub run_written : (showing : Showing) (lines : MarkedLines) (places : Places) (turns : List Turn) (ended : Ended) (f works g : Bool)
     (a b c d : Option (List ℕ)) → g ≡ false → HasWrittenTurns showing lines places turns (device f a b)
-    → TellsEnd lines ended (device works b c) (Ok tt) → Keeps c d
+    → EndsMarked lines ended (device works b c) (Ok tt) → Keeps c d
     → HasWrittenRun showing (record { turns = turns; ended = ended }) (device g a d)
 run_written showing lines places turns ended f works flushed a b c d fine_now h tells kept =
-    let rest = tells showing turns h.written h.told in (
-      (h.written ++ rest.last, rest.all, Appends-kept a c d (h.written ++ rest.last) (Appends-trans a b c h.written rest.last h.has_written rest.writes.0) kept),
+    let end = tells showing turns h.written h.told in
+    let rest = end.rest in
+    let wrote = Appends-trans a b c h.written rest.last h.has_written rest.writes.0 in (
+      (
+        end.marked,
+        end.are_marked,
+        (h.written ++ rest.last, rest.all, Appends-kept a c d (h.written ++ rest.last) wrote kept),
+      ),
       fine_now,
     )
 
 -- nothing is written yet
-pub nothing_written : (showing : Showing) (lines : TranscriptLines) (places : Places) (f : Bool) (a : Option (List ℕ))
-    → HasToldTurns showing lines [] [] → AreCounted showing places [] → f ≡ false → HasWrittenTurns showing lines places [] (device f a a)
+pub nothing_written : (showing : Showing) (lines : MarkedLines) (places : Places) (f : Bool) (a : Option (List ℕ))
+    → HasToldMarked showing lines [] [] → AreCounted places [] → f ≡ false → HasWrittenTurns showing lines places [] (device f a a)
 nothing_written showing lines places f a told counted works =
     record { written = []; told = told; has_written = Appends-nil a; works = works; counted = counted }
 

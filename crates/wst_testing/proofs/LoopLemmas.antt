@@ -21,8 +21,8 @@ use Rattle.ws_handshake.specs.declared.probe_end.Probe.{Probe}
 use Rattle.ws_handshake.specs.declared.probe_end.Probe.TheVariants as probe
 use Rattle.ws_networks.specs.declared.bounds.Limits.{Limits}
 use Rattle.wst_network.specs.declared.connector.ConnectMiss.{ConnectMiss}
-use Rattle.wst_network.specs.declared.fault.NetworkFault.{NetworkFault}
-use Rattle.wst_network.specs.declared.fault.NetworkFault.TheVariants.{NoMemory, NoOutput, WaitFailed}
+use Rattle.ws_loops.specs.declared.fault.LoopFault.{LoopFault}
+use Rattle.ws_loops.specs.declared.fault.LoopFault.TheVariants.{NoMemory, NoOutput, WaitFailed}
 use Rattle.wst_sockets.specs.Meetings.{probe_of}
 use Rattle.wst_sockets.specs.declared.meeting.ConnectFault.{ConnectFault}
 use Rattle.wst_sockets.specs.declared.meeting.Meeting.{Meeting}
@@ -111,7 +111,7 @@ probe_at probe.NoConnection reason = refl
 -- and why
 pub met_because : {S A N E : Type 0} (did : S → S → List Deed → Type 0)
     (does : N → N → List (NetworkDeed A ConnectMiss) → Type 0) (limits : Limits) (from to : ℕ) (old new : N)
-    (name : List ℕ) (start : ProbeValue) (met : Result (Met Probe S ConnectMiss) NetworkFault)
+    (name : List ℕ) (start : ProbeValue) (met : Result (Met Probe S ConnectMiss) LoopFault)
     (answer : Result Meeting E)
     → IfOk met (λ m. HasMet WasProbed (λ (now : ProbeValue). wanted_of now) ProbeGives did does limits from to old new
     name start m) → IfOk answer (λ meeting. IsMeetingBy met meeting)
@@ -154,7 +154,7 @@ module _ (server : AddressValue) (key : List ℕ) (case : Case) (start : ProbeVa
 
   pub met_or_not : {S A N E : Type 0} (did : S → S → List Deed → Type 0)
       (does : N → N → List (NetworkDeed A ConnectMiss) → Type 0) (from to : ℕ) (old new : N) (name : List ℕ)
-      (met : Result (Met Probe S ConnectMiss) NetworkFault) (answer : Result Meeting E)
+      (met : Result (Met Probe S ConnectMiss) LoopFault) (answer : Result Meeting E)
       → IfOk met (λ m. HasMetServer did does from to old new name m)
       → IfOk answer (λ meeting. IsMeetingBy met meeting) → IfOk answer (λ meeting. MeetsAtAddress server key case meeting)
   met_or_not did does from to old new name met (Err why) h by = by

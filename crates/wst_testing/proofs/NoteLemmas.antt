@@ -1,7 +1,7 @@
 -- Texts that are told one after the other, and cases in a row without a connection.
 use Rattle.std.proofs.Common.{append_assoc, ◌-◌, ◌==◌, ◌&&◌, ◌≡◌, ◌∙◌, ◌+◌, ◌<◌, ◌++◌, ℕ, Bool, true, if◌then◌else◌, List, [], ◌∷◌, Option, Some, None}
 use Rattle.std.proofs.Common.{ap, append-nil, arith, below_more, inl, inr, length, refl, subst, sym, take}
-use Rattle.std.proofs.KnownBytes.{Keeps-trans}
+use Rattle.std.proofs.KnownBytes.{Keeps-refl, Keeps-trans}
 use Rattle.std.proofs.Math.Bool.{and-true}
 use Rattle.std.proofs.lemmas.Bool.{eq-eqb, eqb-true}
 use Rattle.std.proofs.lemmas.List.Folds.{list_all-append}
@@ -145,6 +145,17 @@ pub noted_next : (notes next : List (List ℕ)) (f g : Bool) (a b c : Option (Li
     → TellsEach (notes ++ next) (record { failed = g; old = a; new = c })
 noted_next notes next f g a b c still before told = each_then notes next g a b c (each_on notes f g a b still before)
     told
+
+-- three texts, one after the other
+pub three_told : (x y z : List ℕ) (f g h : Bool) (a b c d : Option (List ℕ)) → (f ≡ true → g ≡ true)
+    → (g ≡ true → h ≡ true) → Tells x (record { failed = f; old = a; new = b })
+    → Tells y (record { failed = g; old = b; new = c }) → Tells z (record { failed = h; old = c; new = d })
+    → TellsEach (x ∷ y ∷ z ∷ []) (record { failed = h; old = a; new = d })
+three_told x y z f g h a b c d still stays first second third = (
+  b,
+  tells_on x f h a b (λ failed. stays (still failed)) first,
+  (c, tells_on y g h b c stays second, (d, third, Keeps-refl d)),
+)
 
 -- ---- cases in a row without a connection
 

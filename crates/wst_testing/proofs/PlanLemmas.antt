@@ -1,5 +1,5 @@
 -- The end that a word names, and seconds that are no limit of time.
-use Rattle.std.proofs.Common.{◌≡◌, ℕ, List, Option, Some, None, inl, refl}
+use Rattle.std.proofs.Common.{◌≡◌, ℕ, List, Option, Some, None, refl}
 use Rattle.std.specs.Borrow.{Bor}
 use Rattle.ws_wire.specs.declared.role.Role.TheVariants as role
 use Rattle.ws_targets.specs.Advice.{Advises}
@@ -62,6 +62,7 @@ timeout_refused options refusal.BadDeadline head lacks is = absurd is
 timeout_refused options refusal.DeadlineWithUnit head lacks is = absurd is
 timeout_refused options refusal.BadKey head lacks is = absurd is
 timeout_refused options (refusal.BadAddress given) head lacks is = absurd is
+timeout_refused options refusal.BadConnect head lacks is = absurd is
 timeout_refused options refusal.CaptureInReport head lacks is = absurd is
 timeout_refused options refusal.NotOneCase head lacks is = absurd is
 timeout_refused options refusal.BadMaxFail head lacks is = absurd is
@@ -81,6 +82,7 @@ wait_refused options refusal.BadDeadline head limit lacks is = absurd is
 wait_refused options refusal.DeadlineWithUnit head limit lacks is = absurd is
 wait_refused options refusal.BadKey head limit lacks is = absurd is
 wait_refused options (refusal.BadAddress given) head limit lacks is = absurd is
+wait_refused options refusal.BadConnect head limit lacks is = absurd is
 wait_refused options refusal.CaptureInReport head limit lacks is = absurd is
 wait_refused options refusal.NotOneCase head limit lacks is = absurd is
 wait_refused options refusal.BadMaxFail head limit lacks is = absurd is
@@ -101,6 +103,7 @@ deadline_refused options refusal.BadWait head limit wait lacks is = absurd is
 deadline_refused options refusal.WaitWithUnit head limit wait lacks is = absurd is
 deadline_refused options refusal.BadKey head limit wait lacks is = absurd is
 deadline_refused options (refusal.BadAddress given) head limit wait lacks is = absurd is
+deadline_refused options refusal.BadConnect head limit wait lacks is = absurd is
 deadline_refused options refusal.CaptureInReport head limit wait lacks is = absurd is
 deadline_refused options refusal.NotOneCase head limit wait lacks is = absurd is
 deadline_refused options refusal.BadMaxFail head limit wait lacks is = absurd is
@@ -128,7 +131,8 @@ has_deadline usual (Some word) limit given = (limit, given)
 -- what is told of a target that names no end of the role
 pub end_refused : (options : RunOptions) (why : Refusal) → HasAllButEnd options
     → RefusesTarget options.role options.target.now why → CanNotRun options why
-end_refused options (refusal.BadAddress given) all is = (all, inl is)
+end_refused options (refusal.BadAddress given) all is = (all, is)
+end_refused options refusal.BadConnect all is = absurd is
 end_refused options (refusal.NoCases NoMemory) all is = tt
 end_refused options (refusal.NoCases (NoSuchCase id)) all is = absurd is
 end_refused options refusal.WaitForServer all is = absurd is

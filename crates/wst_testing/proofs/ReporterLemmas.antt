@@ -31,6 +31,8 @@ use Rattle.wst_testing.specs.Testing.{AreTested, IsOutcomeOf, IsTested, LacksMem
 use Rattle.wst_testing.specs.Testing.{StopsAtFailures, StopsAtLine, TellsAll, outcomes_in}
 use Rattle.wst_testing.specs.declared.outcome.Outcome.{Outcome}
 use Rattle.wst_testing.specs.declared.outcome.Outcome.TheVariants.{NoConnection}
+use Rattle.wst_testing.specs.Tried.{tried_notes}
+use Rattle.wst_testing.specs.declared.run_plans.TestedEnd.{TestedEnd}
 use Rattle.wst_testing.specs.declared.runner.RunStop.{RunStop}
 use Rattle.wst_testing.specs.declared.runner.RunStop.TheVariants as stop
 use Rattle.wst_testing.specs.declared.outcome.Score.{Score}
@@ -326,12 +328,13 @@ module _ (rules : RunRules) (report : ReportValue) (place : ℕ) where
 
 -- ---- how a run ends
 
-module _ (Meets : Case → Meeting → Type 0) (rules : RunRules) (report : ReportValue) (cases : List Case) where
+module _ (Meets : Case → Meeting → Type 0) (rules : RunRules) (report : ReportValue) (cases : List Case)
+    (tested : TestedEnd) where
   -- the reporter has ended it
   pub run_broken : (n : ℕ) (came : List (Case × Meeting)) (score : Score) (exit : Exit) (output faults : Device)
       → items_of came ≡ take n cases → CameOf (λ (c : Case). c) Meets came
       → StopsReport rules report (hint_place (length cases)) came score stop.Output output faults → exit ≡ Failed
-      → RunsCases Meets rules report cases (Ok exit) output faults
+      → RunsCases Meets rules report cases tested (Ok exit) output faults
   run_broken n came score exit output faults of met h is =
       let stops : StopsAtLine Meets rules report cases (notes_of rules.progress (hint_place (length cases)) h.tests) exit output = record {
         n = n;
@@ -345,24 +348,36 @@ module _ (Meets : Case → Meeting → Type 0) (rules : RunRules) (report : Repo
       } in
       (notes_of rules.progress (hint_place (length cases)) h.tests, inr (inl stops), h.noted)
 
+  -- there was no connection at last, and where that was refused, the address was told: `f` and `g` say whether the fault
+  -- output had failed before that and since, which held `a`, then `b`, then `c`
   pub run_missed : (n : ℕ) (came : List (Case × Meeting)) (score : Score) (why : ConnectFault) (exit : Exit)
-      (output faults : Device) → items_of came ≡ take n cases → CameOf (λ (c : Case). c) Meets came
-      → StopsReport rules report (hint_place (length cases)) came score (stop.NoConnection why) output faults
-      → exit ≡ Failed → RunsCases Meets rules report cases (Ok exit) output faults
-  run_missed n came score why exit output faults of met h is =
+      (output : Device) (f g : Bool) (a b c : Option (List ℕ)) → items_of came ≡ take n cases
+      → CameOf (λ (c : Case). c) Meets came
+      → StopsReport rules report (hint_place (length cases)) came score (stop.NoConnection why) output
+      (record { failed = f; old = a; new = b })
+      → (f ≡ true → g ≡ true) → TellsEach (tried_notes tested why) (record { failed = g; old = b; new = c })
+      → exit ≡ Failed
+      → RunsCases Meets rules report cases tested (Ok exit) output (record { failed = g; old = a; new = c })
+  run_missed n came score why exit output f g a b c of met h still told is =
       let (works, written, most, last) = h.ends in
-      let stops : StopsAtConnection Meets rules report cases (notes_of rules.progress (hint_place (length cases)) h.tests) exit output = record {
+      let notes = notes_of rules.progress (hint_place (length cases)) h.tests in
+      let stops : StopsAtConnection Meets rules report cases tested (notes ++ tried_notes tested why) exit output = record {
         n = n;
         tests = h.tests;
         are_tested = judged_tested Meets rules (take n cases) came h.tests of met h.judged;
         may_run = h.may_run;
         went_on = h.went_on;
         missed = most;
+        why = why;
+        last = last;
         noted = refl;
         ended = (is, works);
         written = written;
-      } in
-      (notes_of rules.progress (hint_place (length cases)) h.tests, inr (inr (inl stops)), h.noted)
+      } in (
+        notes ++ tried_notes tested why,
+        inr (inr (inl stops)),
+        noted_next notes (tried_notes tested why) f g a b c still h.noted told,
+      )
 
   -- It was stopped behind enough failures, and what the report has behind them was written and told: `f` and `g` say
   -- whether the fault output had failed before that and since, which held `a`, then `b`, then `c`.
@@ -375,7 +390,7 @@ module _ (Meets : Case → Meeting → Type 0) (rules : RunRules) (report : Repo
       → Delivers (exit_of_report score.is_failed) (end_text report (behind_text report score)) exit
       (record { failed = failed; old = mid; new = new })
       → TellsEach (beside_notes report (behind_text report score)) (record { failed = g; old = b; new = c })
-      → RunsCases Meets rules report cases (Ok exit) (record { failed = failed; old = old; new = new })
+      → RunsCases Meets rules report cases tested (Ok exit) (record { failed = failed; old = old; new = new })
       (record { failed = g; old = a; new = c })
   run_enough n came score old mid new exit worked failed f g a b c of met h still told beside =
       let (works, written, few, enough, scored) = h.ends in
@@ -408,7 +423,7 @@ module _ (Meets : Case → Meeting → Type 0) (rules : RunRules) (report : Repo
   run_lacks_total : (n : ℕ) (came : List (Case × Meeting)) (score : Score) (fault : Fault) (output faults : Device)
       → items_of came ≡ take n cases → CameOf (λ (c : Case). c) Meets came
       → StopsReport rules report (hint_place (length cases)) came score stop.Enough output faults → fault ≡ NoMemory
-      → RunsCases Meets rules report cases (Err fault) output faults
+      → RunsCases Meets rules report cases tested (Err fault) output faults
   run_lacks_total n came score fault output faults of met h is =
       let (works, written, few, enough, scored) = h.ends in
       let notes = notes_of rules.progress (hint_place (length cases)) h.tests ++ [] in
@@ -434,12 +449,12 @@ module _ (Meets : Case → Meeting → Type 0) (rules : RunRules) (report : Repo
   -- nothing was written or told since
   as_it_was : (ended : Result Exit Fault) (worked failed f g : Bool) (old mid new a b c : Option (List ℕ))
       → (worked ≡ failed) × (mid ≡ new) → (f ≡ g) × (b ≡ c)
-      → RunsCases Meets rules report cases ended (record { failed = worked; old = old; new = mid })
+      → RunsCases Meets rules report cases tested ended (record { failed = worked; old = old; new = mid })
       (record { failed = f; old = a; new = b })
-      → RunsCases Meets rules report cases ended (record { failed = failed; old = old; new = new })
+      → RunsCases Meets rules report cases tested ended (record { failed = failed; old = old; new = new })
       (record { failed = g; old = a; new = c })
   as_it_was ended worked failed f g old mid new a b c (as_before, held) (silent, heard) runs =
-      let Runs = λ (w v : Bool) (x y : Option (List ℕ)). RunsCases Meets rules report cases ended
+      let Runs = λ (w v : Bool) (x y : Option (List ℕ)). RunsCases Meets rules report cases tested ended
       (record { failed = w; old = old; new = x }) (record { failed = v; old = a; new = y }) in
       subst (λ (y : Option (List ℕ)). Runs failed g new y) heard (subst (λ (v : Bool). Runs failed v new b) silent
       (subst (λ (x : Option (List ℕ)). Runs failed f x b) held (subst (λ (w : Bool). Runs w f mid b) as_before runs)))
@@ -452,7 +467,7 @@ module _ (Meets : Case → Meeting → Type 0) (rules : RunRules) (report : Repo
       → (Same → (worked ≡ failed) × (mid ≡ new)) → (Untold → (f ≡ g) × (b ≡ c)) → (f ≡ true → g ≡ true)
       → EndsReporting report score ended Same Untold (record { failed = failed; old = mid; new = new })
       (record { failed = g; old = b; new = c })
-      → RunsCases Meets rules report cases ended (record { failed = failed; old = old; new = new })
+      → RunsCases Meets rules report cases tested ended (record { failed = failed; old = old; new = new })
       (record { failed = g; old = a; new = c })
   run_enough_told n came score old mid new worked failed f g a b c Same Untold (Ok exit) of met h same untold still
       (told, beside) =
@@ -467,7 +482,7 @@ module _ (Meets : Case → Meeting → Type 0) (rules : RunRules) (report : Repo
   pub run_lacks : (n : ℕ) (came : List (Case × Meeting)) (next : Option Case) (score : Score) (missed : ℕ) (hint : HintState)
       (ended : Result Exit Fault) (output faults : Device) → items_of came ≡ take n cases
       → CameOf (λ (c : Case). c) Meets came → IsNextCase cases n next → HasReported rules report (hint_place (length cases)) came next score missed hint output faults
-      → IsErrAnd ended (λ fault. fault ≡ NoMemory) → RunsCases Meets rules report cases ended output faults
+      → IsErrAnd ended (λ fault. fault ≡ NoMemory) → RunsCases Meets rules report cases tested ended output faults
   run_lacks n came next score missed hint (Ok exit) output faults of met is_next so is = absurd is
   run_lacks n came None score missed hint (Err fault) output faults of met is_next so is =
       let notes = notes_of rules.progress (hint_place (length cases)) so.tests ++ [] in
@@ -533,35 +548,37 @@ module _ (Meets : Case → Meeting → Type 0) (rules : RunRules) (report : Repo
       (still : f ≡ true → g ≡ true) where
     pub run_ended : (why : RunStop) (ended : Result Exit Fault)
         → StopsRun (λ (c : Case). c) Meets GaveOfList heard stopped source before after why
-        → IsEndOfStop report score why ended Same Untold (record { failed = failed; old = mid; new = new })
+        → IsEndOfStop tested report score why ended Same Untold (record { failed = failed; old = mid; new = new })
         (record { failed = g; old = b; new = c })
-        → RunsCases Meets rules report cases ended (record { failed = failed; old = old; new = new })
+        → RunsCases Meets rules report cases tested ended (record { failed = failed; old = old; new = new })
         (record { failed = g; old = a; new = c })
     run_ended stop.Enough ended h is = run_enough_told (length (items_of h.came)) h.came score old mid new worked failed
         f g a b c Same Untold ended (front_is cases (items_of h.came) h.last.rest (sym all ∙ h.stops.0.0)) h.met
         (stops h.came stop.Enough h.stops.1) same untold still is
     run_ended stop.Output ended h (is, stays, quiet) =
-        subst (λ (e : Result Exit Fault). RunsCases Meets rules report cases e
+        subst (λ (e : Result Exit Fault). RunsCases Meets rules report cases tested e
         (record { failed = failed; old = old; new = new }) (record { failed = g; old = a; new = c })) (sym is)
         (as_it_was (Ok Failed) worked failed f g old mid new a b c (same stays) (untold quiet)
         (run_broken (length (items_of h.came)) h.came score Failed (record { failed = worked; old = old; new = mid })
         (record { failed = f; old = a; new = b })
         (front_is cases (items_of h.came) h.last.rest (sym all ∙ h.stops.0.0)) h.met
         (stops h.came stop.Output h.stops.1) refl))
-    run_ended (stop.NoConnection why) ended h (is, stays, quiet) =
-        subst (λ (e : Result Exit Fault). RunsCases Meets rules report cases e
+    run_ended (stop.NoConnection why) ended h (is, stays, told) =
+        let (as_before, held) = same stays in
+        let Runs = λ (w : Bool) (x : Option (List ℕ)). RunsCases Meets rules report cases tested (Ok Failed)
+        (record { failed = w; old = old; new = x }) (record { failed = g; old = a; new = c }) in
+        subst (λ (e : Result Exit Fault). RunsCases Meets rules report cases tested e
         (record { failed = failed; old = old; new = new }) (record { failed = g; old = a; new = c })) (sym is)
-        (as_it_was (Ok Failed) worked failed f g old mid new a b c (same stays) (untold quiet)
+        (subst (λ (x : Option (List ℕ)). Runs failed x) held (subst (λ (w : Bool). Runs w mid) as_before
         (run_missed (length (items_of h.came)) h.came score why Failed (record { failed = worked; old = old; new = mid })
-        (record { failed = f; old = a; new = b })
-        (front_is cases (items_of h.came) h.last.rest (sym all ∙ h.stops.0.0)) h.met
-        (stops h.came (stop.NoConnection why) h.stops.1) refl))
+        f g a b c (front_is cases (items_of h.came) h.last.rest (sym all ∙ h.stops.0.0)) h.met
+        (stops h.came (stop.NoConnection why) h.stops.1) still told refl)))
     run_ended stop.NoMemory ended h (is, stays, quiet) =
         let (more, next, given, is_next, told) = h.stops in
         let (counted, missed, hint, so) = hears h.came next told in
         let items = items_of h.came in
         let whole = sym all ∙ given.0 in
-        subst (λ (e : Result Exit Fault). RunsCases Meets rules report cases e
+        subst (λ (e : Result Exit Fault). RunsCases Meets rules report cases tested e
         (record { failed = failed; old = old; new = new }) (record { failed = g; old = a; new = c })) (sym is)
         (as_it_was (Err NoMemory) worked failed f g old mid new a b c (same stays) (untold quiet)
         (run_lacks (length items) h.came next counted missed hint (Err NoMemory)
@@ -579,7 +596,7 @@ module _ (Meets : Case → Meeting → Type 0) (rules : RunRules) (report : Repo
       → Delivers (exit_of_report score.is_failed) (end_text report (behind_text report score)) exit
       (record { failed = failed; old = mid; new = new })
       → TellsEach (beside_notes report (behind_text report score)) (record { failed = g; old = b; new = c })
-      → RunsCases Meets rules report cases (Ok exit) (record { failed = failed; old = old; new = new })
+      → RunsCases Meets rules report cases tested (Ok exit) (record { failed = failed; old = old; new = new })
       (record { failed = g; old = a; new = c })
   run_all came score missed hint old mid new exit worked failed f g a b c of met so still told beside =
       let there = score_of report so.tests in
@@ -614,7 +631,7 @@ module _ (Meets : Case → Meeting → Type 0) (rules : RunRules) (report : Repo
       → (Same → (worked ≡ failed) × (mid ≡ new)) → (Untold → (f ≡ g) × (b ≡ c)) → (f ≡ true → g ≡ true)
       → EndsReporting report score ended Same Untold (record { failed = failed; old = mid; new = new })
       (record { failed = g; old = b; new = c })
-      → RunsCases Meets rules report cases ended (record { failed = failed; old = old; new = new })
+      → RunsCases Meets rules report cases tested ended (record { failed = failed; old = old; new = new })
       (record { failed = g; old = a; new = c })
   run_told came score missed hint old mid new worked failed f g a b c Same Untold (Ok exit) of met so same untold still (told, beside) =
       run_all came score missed hint old mid new exit worked failed f g a b c of met so still told beside

@@ -3,10 +3,17 @@
 use Rattle.std.specs.Prelude.{◌≡◌, ℕ, ◌-◌, ◌==◌, ◌&&◌, min, nat_lt, Bool, true, false, if◌then◌else◌, List, []}
 use Rattle.std.specs.Prelude.{◌∷◌, ◌++◌, codes, length}
 use Rattle.std.specs.List.{list_all}
+use Rattle.ws_scripts.specs.declared.expectation.Expectation.{Expectation}
+use Rattle.ws_scripts.specs.declared.expectation.Expectation.TheVariants.{Echo, Protocol}
+use Rattle.ws_scripts.specs.declared.transcript.Ended.{Ended}
+use Rattle.ws_scripts.specs.declared.transcript.Ended.TheVariants as ended
+use Rattle.ws_scripts.specs.declared.transcript.Transcript.{Transcript}
+use Rattle.ws_suite.specs.Protocol.{IsVerdictBy}
 use Rattle.ws_suite.specs.declared.verdict.Verdict.{Verdict}
 use Rattle.ws_suite.specs.declared.verdict.Verdict.TheVariants as verdict
 use Rattle.ws_suite.specs.declared.verdict.FailWhy.{FailWhy}
 use Rattle.ws_suite.specs.declared.verdict.FailWhy.TheVariants as fail
+use Rattle.ws_wire.specs.declared.role.Role.{Role}
 use Rattle.wst_testing.specs.Outcomes.{is_status}
 use Rattle.wst_testing.specs.declared.hinting.HintState.{HintState}
 use Rattle.wst_testing.specs.declared.outcome.Outcome.{Outcome}
@@ -76,3 +83,36 @@ hint_with state outcome = record {
 abbrev pub notes_with : HintState → Outcome → List (List ℕ)
 notes_with state outcome = if state.left == 1
     then common_notes (state.messages && is_messages_fail outcome) (state.status && is_status_fail outcome) else []
+
+-- ---- a script that is sent alone, and says no verdict
+
+-- only an end can get it of which an echo is expected
+abbrev pub is_echo_why : FailWhy → Bool
+is_echo_why fail.Early = true
+is_echo_why fail.Messages = true
+is_echo_why _ = false
+
+abbrev pub is_echo_fail : Verdict → Bool
+is_echo_fail (verdict.Fail why) = is_echo_why why
+is_echo_fail (verdict.Loose why) = false
+is_echo_fail verdict.Pass = false
+
+-- by what went over the connection it is none: the tester ended it, and the verdict is one of those
+abbrev pub MissesEchoAt : Ended → Role → Transcript → Bool → Type 0
+MissesEchoAt ended.Tester tested transcript missed = (verdict : Verdict) × IsVerdictBy Echo tested transcript verdict
+    × (missed ≡ is_echo_fail verdict)
+MissesEchoAt ended.Peer tested transcript missed = missed ≡ false
+MissesEchoAt ended.Broken tested transcript missed = missed ≡ false
+
+-- an echo is expected of the tested end, and by what went over the connection, which the tester ended, it is none
+abbrev pub MissesEcho : Expectation → Role → Transcript → Bool → Type 0
+MissesEcho Echo tested transcript missed = MissesEchoAt transcript.ended tested transcript missed
+MissesEcho Protocol tested transcript missed = missed ≡ false
+
+abbrev pub missed_echo_hint : List ℕ
+missed_echo_hint =
+    codes "the replies are not those of an echo: if the endpoint doesn't echo, add --expect protocol\n"
+
+-- what is told then
+abbrev pub missed_echo_notes : Bool → List (List ℕ)
+missed_echo_notes missed = if missed then missed_echo_hint ∷ [] else []

@@ -8,6 +8,7 @@ use Rattle.ws_reports.specs.Known.{AreKnownLines}
 use Rattle.ws_reports.specs.declared.known_line.KnownLine.{KnownLine}
 use Rattle.wst_commands.specs.Faults.{TellsFault}
 use Rattle.wst_commands.specs.ReadingWhole.{ReadsAll, StopsReading}
+use Rattle.wst_commands.specs.RunDamages.{run_damage}
 use Rattle.wst_commands.specs.declared.exit.Exit.{Exit}
 use Rattle.wst_commands.specs.declared.exit.Exit.TheVariants.{Failed}
 use Rattle.wst_commands.specs.declared.fault.Fault.TheVariants as fault
@@ -26,19 +27,19 @@ abbrev pub read_stop : ReadStop → KnownStop
 read_stop read.Fault = stop.Device
 read_stop read.NoMemory = stop.NoMemory
 
-abbrev pub known_stop : TextFault → KnownStop
-known_stop (text.Damaged line) = stop.NotAVerdict line
-known_stop text.NoMemory = stop.NoMemory
+abbrev pub known_stop : List ℕ → TextFault → KnownStop
+known_stop bytes (text.Damaged line) = stop.NotAVerdict line (run_damage bytes line)
+known_stop bytes text.NoMemory = stop.NoMemory
 
 -- it was asked for, and the input could not be read, or is none
 abbrev pub StopsKnowing : Bool → KnownStop → Device → Type 0
 StopsKnowing is_asked why input = (is_asked ≡ true)
     × (((stopped : ReadStop) × StopsReading stopped input × (why ≡ read_stop stopped))
     ⊎ ((bytes : List ℕ) × (damage : TextFault) × ReadsAll bytes input × Damages AreKnownLines damage bytes
-    × (why ≡ known_stop damage)))
+    × (why ≡ known_stop bytes damage)))
 
 -- what is told of that, and the exit
 abbrev pub TellsKnownStop : KnownStop → Exit → Device → Type 0
 TellsKnownStop stop.Device exit faults = (exit ≡ Failed) × IsUntouched faults
-TellsKnownStop (stop.NotAVerdict line) exit faults = TellsFault (fault.NotAVerdict line) exit faults
+TellsKnownStop (stop.NotAVerdict line damage) exit faults = TellsFault (fault.NotAVerdict line damage) exit faults
 TellsKnownStop stop.NoMemory exit faults = TellsFault fault.NoMemory exit faults

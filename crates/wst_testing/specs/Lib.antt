@@ -1,9 +1,11 @@
 pub mod RunPlans
 pub mod Servers
 pub mod Ends
+pub mod HeadRules
 pub mod Outcomes
 pub mod Hints
 pub mod Notes
+pub mod Tried
 pub mod Summaries
 pub mod Reporting
 pub mod Failures

@@ -12,9 +12,11 @@ use Rattle.ws_upgrade.specs.declared.faults.HeadFault.TheVariants.{Status}
 use Rattle.ws_handshake.specs.declared.probe_end.HeadRefusal.{HeadRefusal}
 use Rattle.wst_commands.specs.declared.exit.Exit.{Exit}
 use Rattle.wst_commands.specs.declared.exit.Exit.TheVariants.{Damaged, Done}
+use Rattle.wst_testing.specs.HeadRules.{head_rule}
 use Rattle.wst_testing.specs.declared.outcome.Outcome.{Outcome}
 use Rattle.wst_testing.specs.declared.outcome.Outcome.TheVariants.{HeadRefused, Judged, NoConnection, NotRun}
 use Rattle.wst_testing.specs.declared.outcome.Tally.{Tally}
+use Rattle.wst_testing.specs.declared.outcome.ToldRefusal.{ToldRefusal}
 
 abbrev pub outcome_words : Outcome → List ℕ
 outcome_words (Judged told) = verdict_words told.verdict
@@ -26,10 +28,13 @@ abbrev pub is_status : HeadFault → Bool
 is_status Status = true
 is_status _ = false
 
--- what is told of a refusal: its status where that is why, and where it is asked why
-abbrev pub told_refusal : Bool → HeadRefusal → HeadRefusal
-told_refusal explains refusal =
-    record { fault = refusal.fault; status = if explains && is_status refusal.fault then refusal.status else None }
+-- what is told of a refusal where it is asked why: its status where that is why, and the rule
+abbrev pub told_refusal : Bool → HeadRefusal → ToldRefusal
+told_refusal explains refusal = record {
+  fault = refusal.fault;
+  status = if explains && is_status refusal.fault then refusal.status else None;
+  has_rule = explains;
+}
 
 -- the three digits of a status
 abbrev pub status_digits : ℕ → List ℕ
@@ -40,12 +45,25 @@ abbrev pub status_line : Option ℕ → List ℕ
 status_line None = []
 status_line (Some status) = codes "  status " ++ status_digits status ++ codes "\n"
 
+-- the line that tells the rule of a refusal, where that is to be told
+abbrev pub head_rule_line : ToldRefusal → List ℕ
+head_rule_line refusal =
+    if refusal.has_rule then concat (codes "  rule " ∷ head_rule refusal.fault ∷ codes "\n" ∷ []) else []
+
 -- what stands below its line
 abbrev pub below_line : Outcome → List ℕ
 below_line (Judged told) = string_bytes told.below
-below_line (HeadRefused refusal) = status_line refusal.status
+below_line (HeadRefused refusal) = status_line refusal.status ++ head_rule_line refusal
 below_line (NoConnection why) = []
 below_line NotRun = []
+
+-- an outcome that stands alone: its words, and what stands below them
+abbrev pub lines_alone : Outcome → List ℕ
+lines_alone outcome = concat (outcome_words outcome ∷ codes "\n" ∷ below_line outcome ∷ [])
+
+-- a refusal that stands alone: its words, and below them its status, where that is why, and the rule
+abbrev pub refused_lines : HeadRefusal → List ℕ
+refused_lines refusal = lines_alone (HeadRefused (told_refusal true refusal))
 
 abbrev pub passes : Verdict → Bool
 passes verdict.Pass = true

@@ -16,9 +16,10 @@ use Rattle.wst_testing.specs.declared.hinting.HintState.{HintState}
 use Rattle.wst_testing.specs.Notes.{TellsEach, notes_of, progress_notes}
 use Rattle.wst_testing.specs.Outcomes.{MayRunEach, max_missed, missed_at_end}
 use Rattle.wst_testing.specs.Reporting.{EndsReporting, report_texts, score_of}
-use Rattle.wst_testing.specs.Testing.{IsOutcomeOf, outcomes_in}
+use Rattle.wst_testing.specs.Testing.{EndsMissed, IsOutcomeOf, outcomes_in}
+use Rattle.wst_testing.specs.Tried.{tried_notes}
 use Rattle.wst_testing.specs.declared.outcome.Outcome.{Outcome}
-use Rattle.wst_testing.specs.declared.outcome.Outcome.TheVariants.{NoConnection}
+use Rattle.wst_testing.specs.declared.run_plans.TestedEnd.{TestedEnd}
 use Rattle.wst_testing.specs.declared.runner.RunStop.{RunStop}
 use Rattle.wst_testing.specs.declared.runner.RunStop.TheVariants as stop
 use Rattle.wst_testing.specs.declared.outcome.Score.{Score}
@@ -54,11 +55,6 @@ pub record HasReported (rules : RunRules) (report : ReportValue) (place : ℕ) (
   pub noted : TellsEach (notes_so_far rules.progress place tests next) faults
   pub hinted : IsHintState place (outcomes_in tests) hint
 
--- to the end of the last of these cases there is no connection, for this reason
-abbrev pub EndsMissed : ConnectFault → List (Case × Outcome) → Type 0
-EndsMissed why tests =
-    (before : List (Case × Outcome)) × (case : Case) × (tests ≡ before ++ (case, NoConnection why) ∷ [])
-
 -- what the report has of the last case could not be written whole; or with it as many in a row are without a connection
 -- as end a run; or, where they aren't, with it there are enough failures, and all come to this
 abbrev pub EndsReport : RunRules → ReportValue → List (Case × Outcome) → Score → RunStop → Device → Type 0
@@ -91,12 +87,15 @@ WorksFor (stop.NoConnection why) failed = ⊤
 WorksFor stop.NoMemory failed = ⊤
 
 -- How a run ends that was stopped for this reason: what stopped it was told, but for want of memory, and nothing more
--- is written or told; but where enough was run, what the report has behind these cases.
-abbrev pub IsEndOfStop : ReportValue → Score → RunStop → Result Exit Fault → Type 0 → Type 0 → Device → Device → Type 0
-IsEndOfStop report score stop.Enough ended Unwritten Untold output faults =
+-- is written or told; but where enough was run, what the report has behind these cases, and where a connection was
+-- refused, at which address.
+abbrev pub IsEndOfStop : TestedEnd → ReportValue → Score → RunStop → Result Exit Fault → Type 0 → Type 0 → Device
+    → Device → Type 0
+IsEndOfStop tested report score stop.Enough ended Unwritten Untold output faults =
     EndsReporting report score ended Unwritten Untold output faults
-IsEndOfStop report score stop.Output ended Unwritten Untold output faults = (ended ≡ Ok Failed) × Unwritten × Untold
-IsEndOfStop report score (stop.NoConnection why) ended Unwritten Untold output faults =
+IsEndOfStop tested report score stop.Output ended Unwritten Untold output faults =
     (ended ≡ Ok Failed) × Unwritten × Untold
-IsEndOfStop report score stop.NoMemory ended Unwritten Untold output faults =
+IsEndOfStop tested report score (stop.NoConnection why) ended Unwritten Untold output faults =
+    (ended ≡ Ok Failed) × Unwritten × TellsEach (tried_notes tested why) faults
+IsEndOfStop tested report score stop.NoMemory ended Unwritten Untold output faults =
     (ended ≡ Err NoMemory) × Unwritten × Untold

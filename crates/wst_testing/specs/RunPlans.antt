@@ -1,5 +1,5 @@
 -- What the options that commands share ask for: over which end scripts are run, and how.
-use Rattle.std.specs.Prelude.{◌≡◌, ◌≢◌, ◌⊎◌, ⊤, ℕ, Bool, false, not, List, Option, None, Some, codes, map}
+use Rattle.std.specs.Prelude.{◌≡◌, ◌≢◌, ⊤, ℕ, Bool, false, not, List, Option, None, Some, codes, map}
 use Rattle.std.specs.Prelude.{IsTrue}
 use Rattle.std.specs.Borrow.{Bor}
 use Rattle.std.specs.Str.Iter.{HasSubslice}
@@ -78,10 +78,14 @@ IsEndOf tested word connect (Clients address) =
 abbrev pub NamesEnd : Role → List ℕ → Type 0
 NamesEnd tested word = (end : TestedEnd) × IsEndOf tested word None end
 
--- a connection can be made at the address, where one is given
+-- a connection can be made at the word: it is a host and a port, and no URL
+abbrev pub IsConnectAddress : List ℕ → Type 0
+IsConnectAddress word = IsAddress word × ¬ (IsUrl word)
+
+-- and so it can at the address, where one is given
 abbrev pub CanConnect : Option (Bor (List ℕ)) → Type 0
 CanConnect None = ⊤
-CanConnect (Some address) = IsAddress address.now
+CanConnect (Some address) = IsConnectAddress address.now
 
 -- ---- what the words ask for
 
@@ -233,9 +237,10 @@ CanNotRun options refusal.BadDeadline = HasRequestWords options × HasRunTimeout
 CanNotRun options refusal.DeadlineWithUnit = HasRequestWords options × HasRunTimeout options.timeout
     × HasWait options.wait × ¬ (HasDeadline options.deadline) × HasUnit options.deadline
 CanNotRun options refusal.BadKey = HasTimes options × ((key : List ℕ) → ¬ (IsKeyWord key options.key.now))
-CanNotRun options (refusal.BadAddress given) = HasAllButEnd options
-    × (RefusesTarget options.role options.target.now (refusal.BadAddress given)
-    ⊎ (NamesEnd options.role options.target.now × ¬ (CanConnect options.connect) × (given ≡ advice.Nothing)))
+CanNotRun options (refusal.BadAddress given) =
+    HasAllButEnd options × RefusesTarget options.role options.target.now (refusal.BadAddress given)
+CanNotRun options refusal.BadConnect =
+    HasAllButEnd options × NamesEnd options.role options.target.now × ¬ (CanConnect options.connect)
 CanNotRun options refusal.CaptureInReport = ⊥
 CanNotRun options refusal.NotOneCase = ⊥
 CanNotRun options refusal.BadMaxFail = ⊥
@@ -279,6 +284,8 @@ TellsRefusal refusal.DeadlineWithUnit exit faults =
 TellsRefusal refusal.BadKey exit faults =
     (exit ≡ WrongWords) × Tells (codes "bad key\n  eight lower-case hexadecimal digits: --key 37fa213d\n") faults
 TellsRefusal (refusal.BadAddress given) exit faults = (exit ≡ WrongWords) × Tells (address_text given) faults
+TellsRefusal refusal.BadConnect exit faults =
+    (exit ≡ WrongWords) × Tells (codes "bad address\n  --connect takes HOST:PORT\n") faults
 TellsRefusal refusal.CaptureInReport exit faults =
     (exit ≡ WrongWords) × Tells (codes "--capture does not go with --known or --junit\n") faults
 TellsRefusal refusal.NotOneCase exit faults = (exit ≡ WrongWords) × Tells (codes "--capture takes one case\n") faults

@@ -20,8 +20,8 @@ use Rattle.wst_network.specs.declared.connector.ConnectMiss.{ConnectMiss}
 use Rattle.wst_network.specs.declared.connector.ConnectMiss.TheVariants.{NotFound, NotTaken}
 use Rattle.wst_network.specs.declared.connector.StreamEnd.{StreamEnd}
 use Rattle.wst_network.specs.declared.connector.StreamEnd.TheVariants as stream
-use Rattle.wst_network.specs.declared.fault.NetworkFault.{NetworkFault}
-use Rattle.wst_network.specs.declared.fault.NetworkFault.TheVariants as network
+use Rattle.ws_loops.specs.declared.fault.LoopFault.{LoopFault}
+use Rattle.ws_loops.specs.declared.fault.LoopFault.TheVariants as fault
 use Rattle.wst_testing.specs.declared.address_server.Bounds.{Bounds}
 use Rattle.ws_peer.specs.EchoRuns.{IsEchoRun}
 use Rattle.ws_peer.specs.Runs.{IsRunOf}
@@ -133,7 +133,7 @@ reason_of_miss (missed.Failed (NotTaken kind)) = connect_fault_at kind
 
 -- why an answer was not whole, where the stream has ended so; where it hasn't, a limit of time has passed
 abbrev pub reason_of_end : StreamEnd → ConnectFault
-reason_of_end stream.Open = why.TimedOut
+reason_of_end stream.Open = why.NoAnswer
 reason_of_end stream.Ended = why.ClosedBeforeAnswer
 reason_of_end (stream.Failed kind) = connect_fault_at kind
 
@@ -144,12 +144,12 @@ meeting_at (probe.Refused refusal) reason = Refused refusal
 meeting_at probe.NoConnection reason = NoConnection reason
 
 -- what came of a case, where this came of its machine: what that gives, or no connection, and why
-abbrev pub IsMeetingBy : {S : Type 0} → Result (Met Probe S ConnectMiss) NetworkFault → Meeting → Type 0
+abbrev pub IsMeetingBy : {S : Type 0} → Result (Met Probe S ConnectMiss) LoopFault → Meeting → Type 0
 IsMeetingBy (Ok (Ended probe ended)) meeting = (end : StreamEnd) × (meeting ≡ meeting_at probe (reason_of_end end))
 IsMeetingBy (Ok (NotMade reason)) meeting = meeting ≡ NoConnection (reason_of_miss reason)
-IsMeetingBy (Err network.NoMemory) meeting = ⊥
-IsMeetingBy (Err network.WaitFailed) meeting = meeting ≡ NoConnection why.Failed
-IsMeetingBy (Err network.NoOutput) meeting = meeting ≡ NoConnection why.Failed
+IsMeetingBy (Err fault.NoMemory) meeting = ⊥
+IsMeetingBy (Err fault.WaitFailed) meeting = meeting ≡ NoConnection why.Failed
+IsMeetingBy (Err fault.NoOutput) meeting = meeting ≡ NoConnection why.Failed
 
 -- A machine that probes was run over a connection to this name, by a network that did just this, within these limits,
 -- and this came of it; or none was made, for the reason that is told; or nothing could be waited for.

@@ -12,19 +12,20 @@ use Rattle.ws_suite.specs.declared.verdict.Verdict.TheVariants as verdict
 use Rattle.ws_sweep.specs.Order.{ArePlaces, ScriptsLeft, count_of_scripts, max_steps, script_number}
 use Rattle.ws_sweep.specs.ShortCases.{CaseRules, IsShortCase}
 use Rattle.ws_sweep.specs.Telling.{steps_text}
-use Rattle.wst_commands.specs.Devices.{Tells}
 use Rattle.wst_commands.specs.Faults.{LacksMemory}
 use Rattle.wst_commands.specs.declared.exit.Exit.{Exit}
 use Rattle.wst_commands.specs.declared.exit.Exit.TheVariants.{Failed}
-use Rattle.wst_sockets.specs.Meetings.{miss_line}
 use Rattle.wst_testing.specs.Failures.{is_enough}
+use Rattle.wst_testing.specs.Notes.{TellsEach}
 use Rattle.wst_testing.specs.Outcomes.{exit_of_tests, outcome_words, tally_of, total_line}
 use Rattle.wst_testing.specs.Testing.{IsOutcomeOf, IsTested}
+use Rattle.wst_testing.specs.Tried.{missed_notes}
 use Rattle.wst_sockets.specs.declared.meeting.ConnectFault.{ConnectFault}
 use Rattle.wst_sockets.specs.declared.meeting.Meeting.{Meeting}
 use Rattle.wst_testing.specs.declared.outcome.Outcome.{Outcome}
 use Rattle.wst_testing.specs.declared.outcome.Outcome.TheVariants.{HeadRefused, Judged, NoConnection, NotRun}
 use Rattle.wst_testing.specs.declared.outcome.Tally.{Tally}
+use Rattle.wst_testing.specs.declared.run_plans.TestedEnd.{TestedEnd}
 use Rattle.wst_testing.specs.declared.runner.RunStop.{RunStop}
 use Rattle.wst_testing.specs.declared.runner.RunStop.TheVariants as stop
 use Rattle.wst_testing.specs.declared.sweeping.SweepRules.{SweepRules}
@@ -178,12 +179,12 @@ SweepsScripts Meets rules ended output =
 
 -- ---- what is told on the fault output, and the exit
 
-abbrev pub TellsSweepEnd : Result Exit RunStop → Exit → Device → Type 0
-TellsSweepEnd (Ok ended) exit faults = (exit ≡ ended) × IsUntouched faults
-TellsSweepEnd (Err stop.Enough) exit faults = (exit ≡ Failed) × IsUntouched faults
-TellsSweepEnd (Err stop.Output) exit faults = (exit ≡ Failed) × IsUntouched faults
-TellsSweepEnd (Err (stop.NoConnection why)) exit faults = (exit ≡ Failed) × Tells (miss_line why) faults
-TellsSweepEnd (Err stop.NoMemory) exit faults = LacksMemory exit faults
+abbrev pub TellsSweepEnd : TestedEnd → Result Exit RunStop → Exit → Device → Type 0
+TellsSweepEnd end (Ok ended) exit faults = (exit ≡ ended) × IsUntouched faults
+TellsSweepEnd end (Err stop.Enough) exit faults = (exit ≡ Failed) × IsUntouched faults
+TellsSweepEnd end (Err stop.Output) exit faults = (exit ≡ Failed) × IsUntouched faults
+TellsSweepEnd end (Err (stop.NoConnection why)) exit faults = (exit ≡ Failed) × TellsEach (missed_notes end why) faults
+TellsSweepEnd end (Err stop.NoMemory) exit faults = LacksMemory exit faults
 
 -- ---- parts of a run: a reader may skip what follows
 

@@ -30,6 +30,9 @@ use Rattle.wst_commands.specs.declared.fault.Fault.{Fault}
 use Rattle.wst_commands.specs.declared.fault.Fault.TheVariants.{NoMemory}
 use Rattle.wst_sockets.specs.declared.meeting.Meeting.{Meeting}
 use Rattle.wst_sockets.specs.declared.meeting.Meeting.TheVariants as meeting
+use Rattle.wst_sockets.specs.declared.meeting.ConnectFault.{ConnectFault}
+use Rattle.wst_testing.specs.Tried.{tried_notes}
+use Rattle.wst_testing.specs.declared.run_plans.TestedEnd.{TestedEnd}
 use Rattle.wst_testing.specs.declared.outcome.Outcome.{Outcome}
 use Rattle.wst_testing.specs.declared.outcome.Outcome.TheVariants as outcome
 use Rattle.wst_testing.specs.declared.testing.RunRules.{RunRules}
@@ -100,10 +103,15 @@ pub record StopsAtLine (Meets : Case → Meeting → Type 0) (rules : RunRules) 
   pub failed : (exit ≡ Failed) × (output.failed ≡ true)
   pub begun : HasBegun (report_texts report tests) output
 
+-- to the end of the last of these cases there is no connection, for this reason
+abbrev pub EndsMissed : ConnectFault → List (Case × Outcome) → Type 0
+EndsMissed why tests =
+    (before : List (Case × Outcome)) × (case : Case) × (tests ≡ before ++ (case, outcome.NoConnection why) ∷ [])
+
 -- The first n cases were tested so, and with the last of them as many in a row are without a connection as end a run:
--- their lines were written, and no total.
+-- their lines were written, and no total. Where the last was refused, it was told at which address.
 pub record StopsAtConnection (Meets : Case → Meeting → Type 0) (rules : RunRules) (report : ReportValue)
-    (cases : List Case)
+    (cases : List Case) (tested : TestedEnd)
     (notes : List (List ℕ)) (exit : Exit) (output : Device) : Type 0 where
   pub n : ℕ
   pub tests : List (Case × Outcome)
@@ -111,7 +119,9 @@ pub record StopsAtConnection (Meets : Case → Meeting → Type 0) (rules : RunR
   pub may_run : MayRunEach (max_missed rules.is_limited) (outcomes_in tests)
   pub went_on : WentOn rules.max_fail report tests
   pub missed : missed_at_end (outcomes_in tests) ≡ max_missed rules.is_limited
-  pub noted : notes ≡ notes_of rules.progress (hint_place (length cases)) tests
+  pub why : ConnectFault
+  pub last : EndsMissed why tests
+  pub noted : notes ≡ notes_of rules.progress (hint_place (length cases)) tests ++ tried_notes tested why
   pub ended : (exit ≡ Failed) × (output.failed ≡ false)
   pub written : HasWritten (report_texts report tests) output
 
@@ -154,20 +164,20 @@ pub record LacksMemoryAfter (Meets : Case → Meeting → Type 0) (rules : RunRu
   pub written : HasWritten (report_texts report tests) output
 
 -- how a run of these cases ended, over ends that meet cases so, and what was to be told beside it
-abbrev pub TestsCases : (Case → Meeting → Type 0) → RunRules → ReportValue → List Case → List (List ℕ)
+abbrev pub TestsCases : (Case → Meeting → Type 0) → RunRules → ReportValue → List Case → TestedEnd → List (List ℕ)
     → Result Exit Fault → Device → Type 0
-TestsCases Meets rules report cases notes ended output = MatchResult ended
+TestsCases Meets rules report cases tested notes ended output = MatchResult ended
     (λ exit. TellsAll Meets rules report cases notes exit output
     ⊎ StopsAtLine Meets rules report cases notes exit output
-    ⊎ StopsAtConnection Meets rules report cases notes exit output
+    ⊎ StopsAtConnection Meets rules report cases tested notes exit output
     ⊎ StopsAtFailures Meets rules report cases notes exit output)
     (λ fault. (fault ≡ NoMemory) × LacksMemoryAfter Meets rules report cases notes output)
 
 -- it was told
-abbrev pub RunsCases : (Case → Meeting → Type 0) → RunRules → ReportValue → List Case → Result Exit Fault → Device
-    → Device → Type 0
-RunsCases Meets rules report cases ended output faults = (notes : List (List ℕ))
-    × TestsCases Meets rules report cases notes ended output × TellsEach notes faults
+abbrev pub RunsCases : (Case → Meeting → Type 0) → RunRules → ReportValue → List Case → TestedEnd → Result Exit Fault
+    → Device → Device → Type 0
+RunsCases Meets rules report cases tested ended output faults = (notes : List (List ℕ))
+    × TestsCases Meets rules report cases tested notes ended output × TellsEach notes faults
 
 -- ---- a capture
 

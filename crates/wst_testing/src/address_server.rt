@@ -24,12 +24,12 @@ use std::slice;
 use ws_base::NoMemory;
 use ws_connection::{Asked, Connection, Observer, Probe, UpgradeRequest, probe, probe_machine};
 use ws_frame::READ_SIZE;
-use ws_loops::{Poller, Readiness, WaitFailed};
+use ws_loops::{LoopFault, Poller, WaitFailed, Wake};
 use ws_networks::{Limits, Met, Missed, run_at};
 use ws_suite::{Case, Expectation};
 use ws_targets::Target;
 use wst_commands::TimeLimit;
-use wst_network::{ConnectMiss, Connector, EndingStream, NetworkFault, StreamEnd};
+use wst_network::{ConnectMiss, Connector, EndingStream, StreamEnd};
 use wst_sockets::{
     ConnectFault, Meeting, Network, Noted, Notice, PATIENCE, Pace, PatientReader, PatientWriter,
     Running, WaitTeller, connect, connect_fault, lookup_fault, shared,
@@ -212,6 +212,7 @@ fn meet_over<S: Read + Write + OpenStream, N: Network, O: Observer>(
 /// Why an answer was not whole, where a call has failed so first. Where none has, the stream has ended in it.
 fn fault_of(failure: Option<ErrorKind>) -> ConnectFault {
     match failure {
+        Some(ErrorKind::TimedOut | ErrorKind::WouldBlock) => ConnectFault::NoAnswer,
         Some(kind) => connect_fault(kind),
         None => ConnectFault::ClosedBeforeAnswer,
     }
@@ -264,7 +265,7 @@ pub fn run_looped<N: ws_networks::Network<Miss = ConnectMiss>, P: Poller>(
     bounds: Bounds,
 ) -> Result<Meeting, NoMemory>
 where
-    N::Stream: EndingStream<Fault = NetworkFault>,
+    N::Stream: EndingStream,
     requires runs { CanBeRun case.now }
     requires request { CanBeAsked (request_value asked.now.request) }
     requires timeouts { asked.now.has_timeouts ≡ is_limited bounds.timeout }
@@ -282,15 +283,15 @@ where
 
 /// What came of a case, where this came of its machine. Where nothing could be waited for, there is no connection.
 fn meeting_by<S: EndingStream + Drop>(
-    met: Result<Met<Probe, S, ConnectMiss>, NetworkFault>,
+    met: Result<Met<Probe, S, ConnectMiss>, LoopFault>,
 ) -> Result<Meeting, NoMemory>
     ensures { IfOk result (λ meeting. IsMeetingBy met meeting) }
 {
     match met {
         Ok(Met::Ended(probe, stream)) => Ok(meeting_of(probe, stream.stream_end())),
         Ok(Met::NotMade(why)) => without_connection(why),
-        Err(NetworkFault::NoMemory) => Err(NoMemory),
-        Err(NetworkFault::WaitFailed | NetworkFault::NoOutput) => {
+        Err(LoopFault::NoMemory) => Err(NoMemory),
+        Err(LoopFault::WaitFailed | LoopFault::NoOutput) => {
             Ok(Meeting::NoConnection(ConnectFault::Failed))
         }
     }
@@ -312,7 +313,7 @@ fn end_fault(end: StreamEnd) -> ConnectFault
     ensures { result ≡ reason_of_end end }
 {
     match end {
-        StreamEnd::Open => ConnectFault::TimedOut,
+        StreamEnd::Open => ConnectFault::NoAnswer,
         StreamEnd::Ended => ConnectFault::ClosedBeforeAnswer,
         StreamEnd::Failed(kind) => connect_fault(kind),
     }
@@ -398,20 +399,15 @@ impl<P: Poller, N: Network> Poller for TellingPoller<'_, P, N> {
         now
     }
 
-    fn wait(&mut self, ready: &mut [Readiness], until: Option<u64>) -> Result<(), WaitFailed> {
+    fn wait(&mut self, found: &mut [Wake], until: Option<u64>) -> Result<usize, WaitFailed> {
         if let Some(patience) = self.patience(until) {
-            self.poller.wait(ready, Some(patience))?;
-            if is_any(ready) {
-                return Ok(());
+            let count = self.poller.wait(found, Some(patience))?;
+            if count > 0 {
+                return Ok(count);
             }
             self.teller.tell();
         }
-        self.poller.wait(ready, until)?;
-        Ok(())
+        let count = self.poller.wait(found, until)?;
+        Ok(count)
     }
-}
-
-/// Whether a stream was found ready.
-fn is_any(ready: &[Readiness]) -> bool {
-    ready.iter().any(|mark| mark.read || mark.write)
 }

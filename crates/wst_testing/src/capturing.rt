@@ -11,14 +11,13 @@ ghost use Rattle.wst_testing.specs.Testing.{RunsCapture, WritesCapture, run_capt
 ghost use Rattle.wst_commands.specs.declared.fault.Fault.TheVariants as variant;
 
 use crate::case_server::CaseServer;
-use crate::outcome::Outcome;
+use crate::outcome::{Outcome, ToldRefusal};
 use crate::runner::{ListedCases, RunStop, Sink, run_cases};
 use crate::testing::{RunRules, tell_case, tell_miss, tell_progress};
 use std::alloc::Global;
 use std::io::Write;
 use std::slice;
 use ws_base::NoMemory;
-use ws_connection::HeadRefusal;
 use ws_frame::Watched;
 use ws_peer::tester_key;
 use ws_suite::{Capture, Case, Transcript, judge_with, write_capture2};
@@ -129,9 +128,10 @@ fn tell_came<W: Write, F: Write>(
     match meeting {
         Meeting::Ran(transcript) => tell_capture(alloc, rules, transcript, writer),
         Meeting::Refused(refusal) => {
-            let outcome = Outcome::HeadRefused(HeadRefusal {
+            let outcome = Outcome::HeadRefused(ToldRefusal {
                 fault: refusal.fault,
                 status: None,
+                has_rule: false,
             });
             tell_case(alloc, case, &outcome, Exit::Damaged, writer)
         }

@@ -1,18 +1,23 @@
 //! What the first cases of a run have in common, where that says what to type.
 
-ghost use Rattle.std.specs.Prelude.{◌≡◌, [], length};
+ghost use Rattle.std.specs.Prelude.{◌≡◌, IfOk, [], length};
 ghost use Rattle.ws_frame.specs.Devices.{watched};
 ghost use Rattle.wst_commands.specs.Devices.{StaysFailed};
 ghost use Rattle.wst_testing.specs.Hints.{IsHintState, common_notes, echo_hint, hint_place, hint_with};
 ghost use Rattle.wst_testing.specs.Hints.{is_messages_fail, is_status_fail, notes_with, status_hint};
+ghost use Rattle.wst_testing.specs.Hints.{MissesEcho, is_echo_fail, missed_echo_hint};
+ghost use Rattle.wst_testing.specs.Hints.{missed_echo_notes};
 ghost use Rattle.wst_testing.specs.Notes.{TellsEach};
 
 use crate::outcome::Outcome;
+use std::alloc::Global;
 use std::io::Write;
+use ws_base::NoMemory;
 use ws_frame::Watched;
-use ws_suite::{FailWhy, Verdict};
+use ws_suite::{Ended, Expectation, FailWhy, Transcript, Verdict};
 use ws_upgrade::HeadFault;
-use wst_commands::tell;
+use ws_wire::Role;
+use wst_commands::{judgement_of, tell};
 
 /// Behind so many lines of a run it is told what they have in common, and behind the last line of a run of fewer cases.
 const HINT_PLACE: usize = 10;
@@ -122,5 +127,52 @@ fn is_status_fail(outcome: &Outcome) -> bool
     match outcome {
         Outcome::HeadRefused(refusal) => matches!(refusal.fault, HeadFault::Status),
         Outcome::Judged(_) | Outcome::NoConnection(_) | Outcome::NotRun => false,
+    }
+}
+
+/// Whether an echo is expected of a tested end that by what went over a connection is none, where the tester ended it:
+/// a script that is sent alone ends at what an echo can't be, and says no verdict. A connection that it didn't end
+/// isn't judged, so that no memory is asked for behind its last line.
+pub fn misses_echo(
+    alloc: Global,
+    tested: Role,
+    expected: Expectation,
+    transcript: &Transcript,
+) -> Result<bool, NoMemory>
+    ensures { IfOk result (λ missed. MissesEcho expected tested transcript.now missed) }
+{
+    match (expected, transcript.ended) {
+        (Expectation::Echo, Ended::Tester) => {
+            let told = judgement_of(alloc, None, tested, Expectation::Echo, transcript)?;
+            Ok(is_echo_fail(told.verdict))
+        }
+        (Expectation::Echo, Ended::Peer | Ended::Broken) | (Expectation::Protocol, _) => Ok(false),
+    }
+}
+
+/// Tells what to type then.
+pub fn tell_missed_echo<F: Write>(missed: bool, faults: &mut Watched<F>)
+    ensures told { TellsEach (missed_echo_notes missed) (watched F.contents faults.old faults.new) }
+    ensures still { StaysFailed faults.old faults.new }
+{
+    if missed {
+        tell(missed_echo_hint(), faults);
+    }
+}
+
+/// What to type where the replies are none of an echo.
+fn missed_echo_hint() -> &'static [u8]
+    ensures { result.now ≡ missed_echo_hint }
+{
+    b"the replies are not those of an echo: if the endpoint doesn't echo, add --expect protocol\n"
+}
+
+/// Whether it is a Fail that only an end can get of which an echo is expected.
+fn is_echo_fail(verdict: Verdict) -> bool
+    ensures { result ≡ is_echo_fail verdict }
+{
+    match verdict {
+        Verdict::Fail(FailWhy::Early | FailWhy::Messages) => true,
+        Verdict::Fail(_) | Verdict::Loose(_) | Verdict::Pass => false,
     }
 }

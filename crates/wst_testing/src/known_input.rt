@@ -10,15 +10,15 @@ use std::io::{Read, Write};
 use ws_base::TextFault;
 use ws_frame::Watched;
 use ws_reports::{KnownVerdicts, read_known};
-use wst_commands::{Exit, Fault, ReadStop, read_whole, tell_fault};
+use wst_commands::{Exit, Fault, ReadStop, RunDamage, read_whole, run_damage, tell_fault};
 
 /// Why the earlier run isn't known.
 #[derive(Clone, Copy)]
 pub enum KnownStop {
     /// The input failed.
     Device,
-    /// The first line that is none of a run, counted from 1.
-    NotAVerdict(u64),
+    /// The first line that is none of a run, counted from 1, and what is wrong with it.
+    NotAVerdict(u64, RunDamage),
     /// Memory ran out.
     NoMemory,
 }
@@ -41,9 +41,10 @@ pub fn known_given<R: Read>(
         Ok(text) => text,
         Err(why) => return Err(read_stop(why)),
     };
-    match read_known(alloc, text.as_slice()) {
+    let bytes = text.as_slice();
+    match read_known(alloc, bytes) {
         Ok(known) => Ok(Some(known)),
-        Err(why) => Err(known_stop(why)),
+        Err(why) => Err(known_stop(bytes, why)),
     }
 }
 
@@ -58,11 +59,11 @@ fn read_stop(why: ReadStop) -> KnownStop
 }
 
 /// Why a text tells no run.
-fn known_stop(why: TextFault) -> KnownStop
-    ensures { result ≡ known_stop why }
+fn known_stop(text: &[u8], why: TextFault) -> KnownStop
+    ensures { result ≡ known_stop text.now why }
 {
     match why {
-        TextFault::Damaged(line) => KnownStop::NotAVerdict(line),
+        TextFault::Damaged(line) => KnownStop::NotAVerdict(line, run_damage(text, line)),
         TextFault::NoMemory => KnownStop::NoMemory,
     }
 }
@@ -73,7 +74,9 @@ pub fn tell_known_stop<F: Write>(alloc: Global, why: KnownStop, faults: &mut Wat
 {
     match why {
         KnownStop::Device => Exit::Failed,
-        KnownStop::NotAVerdict(line) => tell_fault(alloc, Fault::NotAVerdict(line), faults),
+        KnownStop::NotAVerdict(line, damage) => {
+            tell_fault(alloc, Fault::NotAVerdict(line, damage), faults)
+        }
         KnownStop::NoMemory => tell_fault(alloc, Fault::NoMemory, faults),
     }
 }

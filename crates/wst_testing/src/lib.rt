@@ -12,10 +12,12 @@
 mod address_server;
 mod capturing;
 mod case_server;
+mod head_rules;
 mod hinting;
 mod known_input;
 pub mod laws;
 mod line_writer;
+mod marked_lines;
 mod outcome;
 mod run_plans;
 mod runner;
@@ -23,19 +25,24 @@ mod short_runs;
 mod summary;
 mod sweeping;
 mod testing;
+mod tried;
 
 pub use address_server::AddressServer;
 pub use capturing::{capture_case, capture_text, tell_capture};
 pub use case_server::{CaseServer, MemoryEnd, MemoryPeer};
+pub use head_rules::head_rule;
+pub use hinting::{misses_echo, tell_missed_echo};
 pub use known_input::{KnownStop, known_given, tell_known_stop};
 pub use line_writer::{LineStop, LineWriter};
+pub use marked_lines::MarkedLines;
 pub use outcome::{
-    Outcome, Reported, Score, Tally, behind_text, close_report, is_fail, report_case, tell_beside,
-    total_line,
+    Outcome, Reported, Score, Tally, ToldRefusal, behind_text, close_report, is_fail, report_case,
+    tell_beside, total_line,
 };
 pub use run_plans::{
     Refusal, RunPlan, TestedEnd, UsualTimes, is_url, max_fail_given, plan_run, tell_refusal,
 };
 pub use runner::{CaseSource, End, HasCase, ListedCases, RunStop, Sink, run_cases};
 pub use sweeping::{SweepRules, is_told, sweep_scripts, tell_sweep_end, total_of};
-pub use testing::{RunRules, tell_case, tell_progress, test_cases};
+pub use testing::{RunRules, refused_lines, tell_case, tell_progress, test_cases};
+pub use tried::tell_missed;

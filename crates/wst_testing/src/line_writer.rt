@@ -3,15 +3,15 @@
 ghost use Rattle.std.specs.Prelude.{◌≡◌, ◌+◌, ◌<◌, ◌^◌, IfSome, OnOk, [], false};
 ghost use Rattle.std.specs.Io.KnownBytes.{Keeps};
 ghost use Rattle.ws_frame.specs.Watching.{has_failed, inner_of};
-ghost use Rattle.ws_lines.specs.Telling.{HasToldTurns};
-ghost use Rattle.wst_testing.specs.LineWriting.{AreCounted};
+ghost use Rattle.wst_testing.specs.LineWriting.{AreCounted, HasToldMarked};
 
+use crate::marked_lines::MarkedLines;
 use std::alloc::Global;
 use std::io::Write;
 use ws_base::NoMemory;
 use ws_connection::Observer;
 use ws_frame::{ShowFault, Watched, WriteFault};
-use ws_lines::{Showing, TranscriptLines};
+use ws_lines::Showing;
 use ws_suite::Ended;
 
 /// Why no more lines are written.
@@ -87,7 +87,7 @@ impl Places {
 pub struct LineWriter<'a, W> {
     alloc: Global,
     showing: Showing,
-    lines: &'a mut TranscriptLines,
+    lines: &'a mut MarkedLines,
     places: Places,
     writer: &'a mut Watched<W>,
 }
@@ -98,15 +98,15 @@ impl<'a, W> LineWriter<'a, W> {
     pub fn new(
         alloc: Global,
         showing: Showing,
-        lines: &'a mut TranscriptLines,
+        lines: &'a mut MarkedLines,
         writer: &'a mut Watched<W>,
     ) -> LineWriter<'a, W>
-        requires { HasToldTurns showing lines.old [] [] }
+        requires { HasToldMarked showing lines.old [] [] }
         ensures showing { result.showing ≡ showing }
         ensures writer { result.writer.now ≡ writer.old }
         ensures borrow { result.writer.ghost_name ≡ writer.entry.ghost_name }
-        ensures lines { HasToldTurns result.showing result.lines.now [] [] }
-        ensures places { AreCounted result.showing result.places [] }
+        ensures lines { HasToldMarked result.showing result.lines.now [] [] }
+        ensures places { AreCounted result.places [] }
     {
         LineWriter {
             alloc,

@@ -3,7 +3,8 @@
 ghost use Rattle.std.specs.Prelude.{◌≡◌, ◌+◌, ◌<◌, ◌^◌, ◌&&◌, IfOk, IfSome, OnErr, OnOk, string_bytes, false};
 ghost use Rattle.std.specs.Prelude.{if◌then◌else◌};
 ghost use Rattle.wst_testing.specs.Failures.{is_enough};
-ghost use Rattle.wst_testing.specs.Outcomes.{below_line, count_in, exit_of_tests, is_fail, no_tally, outcome_words};
+ghost use Rattle.wst_testing.specs.Outcomes.{below_line, count_in, exit_of_tests, head_rule_line, is_fail, no_tally};
+ghost use Rattle.wst_testing.specs.Outcomes.{outcome_words, status_line};
 ghost use Rattle.wst_testing.specs.Outcomes.{tally_with, tally_with_verdict, total_line};
 ghost use Rattle.wst_testing.specs.Notes.{TellsEach};
 ghost use Rattle.wst_testing.specs.Reporting.{ClosesReport, EndsReporting, behind_text, beside_notes, case_score};
@@ -13,27 +14,37 @@ ghost use Rattle.ws_frame.specs.Watching.{has_failed};
 ghost use Rattle.ws_reports.specs.KnownCounts.{counts_if};
 ghost use Rattle.wst_commands.specs.Devices.{StaysFailed};
 
+use crate::head_rules::head_rule;
 use crate::summary::summary_lines;
 use std::alloc::Global;
 use std::fmt;
 use std::io::Write;
 use ws_base::NoMemory;
-use ws_connection::HeadRefusal;
 use ws_frame::Watched;
 use ws_reports::{CaseScore, Change, KeptVerdicts, KnownCounts, Report, Told};
 use ws_suite::{Case, Verdict};
 use ws_titles::title_of;
+use ws_upgrade::HeadFault;
 use wst_commands::{Exit, Fault, Judgement, deliver, tell};
 use wst_sockets::ConnectFault;
+
+/// What is told of an answer that is to be refused.
+#[derive(Clone, Copy)]
+pub struct ToldRefusal {
+    pub fault: HeadFault,
+    /// Its status, where that is to be told.
+    pub status: Option<u16>,
+    /// The rule is told.
+    pub has_rule: bool,
+}
 
 /// What is told of a tested end in a case.
 #[derive(Drop)]
 pub enum Outcome {
     /// Whether it kept the rules, and why that is told.
     Judged(Judgement),
-    /// Its answer to the request for an upgrade is to be refused, which counts as a Fail. Its status is there where
-    /// that is to be told.
-    HeadRefused(HeadRefusal),
+    /// Its answer to the request for an upgrade is to be refused, which counts as a Fail.
+    HeadRefused(ToldRefusal),
     /// There is no connection to it, which counts as a Fail where a run goes on.
     NoConnection(ConnectFault),
     /// It is a client that never asked for it, which counts as a Fail.
@@ -67,18 +78,49 @@ impl fmt::Display for Below<'_> {
     fn fmt<W: fmt::Write>(&self, f: &mut fmt::Formatter<W>) -> fmt::Result {
         match self.0 {
             Outcome::Judged(told) => write!(f, "{}", told.below),
-            Outcome::HeadRefused(
-                HeadRefusal {
-                    status: Some(status),
-                    ..
-                },
-            ) => {
+            Outcome::HeadRefused(refusal) => {
+                let (status, rule) = (StatusLine(refusal.status), RuleLine(*refusal));
+                write!(f, "{status}{rule}")
+            }
+            Outcome::NoConnection(_) | Outcome::NotRun => Ok(()),
+        }
+    }
+}
+
+/// The line that tells a status, where one is to be told.
+#[derive(Clone, Copy)]
+struct StatusLine(Option<u16>);
+
+impl fmt::Display for StatusLine {
+    ghost use Rattle.std.specs.Prelude.{Some};
+
+    ghost output = { λ line. Some (status_line line.0) };
+
+    fn fmt<W: fmt::Write>(&self, f: &mut fmt::Formatter<W>) -> fmt::Result {
+        match self.0 {
+            Some(status) => {
                 let (hundreds, tens, ones) = (status / 100, status / 10 % 10, status % 10);
                 write!(f, "  status {hundreds}{tens}{ones}\n")
             }
-            Outcome::HeadRefused(HeadRefusal { status: None, .. })
-            | Outcome::NoConnection(_)
-            | Outcome::NotRun => Ok(()),
+            None => Ok(()),
+        }
+    }
+}
+
+/// The line that tells the rule of an answer that is to be refused, where that is to be told.
+#[derive(Clone, Copy)]
+struct RuleLine(ToldRefusal);
+
+impl fmt::Display for RuleLine {
+    ghost use Rattle.std.specs.Prelude.{Some};
+
+    ghost output = { λ line. Some (head_rule_line line.0) };
+
+    fn fmt<W: fmt::Write>(&self, f: &mut fmt::Formatter<W>) -> fmt::Result {
+        if self.0.has_rule {
+            write!(f, "  rule {}\n", head_rule(self.0.fault))
+        } else {
+            Ok(())
         }
     }
 }

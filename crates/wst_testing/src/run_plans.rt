@@ -5,7 +5,8 @@ ghost use Rattle.ws_frame.specs.Devices.{watched};
 ghost use Rattle.wst_commands.specs.Devices.{Tells};
 ghost use Rattle.ws_connection.specs.RequestHeaders.{headers_in};
 ghost use Rattle.wst_testing.specs.RunPlans.{GivesMaxFail, HasHeaders, HasMaxFail, header_words};
-ghost use Rattle.wst_testing.specs.RunPlans.{CanConnect, IsClientsAddress, IsEndOf, IsRunPlan, IsUrl, CanNotRun};
+ghost use Rattle.wst_testing.specs.RunPlans.{CanConnect, IsClientsAddress, IsConnectAddress, IsEndOf, IsRunPlan};
+ghost use Rattle.wst_testing.specs.RunPlans.{CanNotRun, IsUrl};
 ghost use Rattle.wst_testing.specs.RunPlans.{AdvisesClients, RefusesTarget, TellsRefusal, address_text, tested_role};
 ghost use Rattle.wst_testing.specs.RunPlans.{IsDeadlineRefusal, IsTimeoutRefusal, IsWaitRefusal, WaitsForServer};
 ghost use Rattle.wst_testing.specs.RunPlans.{gives_limit, tells_waits, usual_deadline, usual_timeout};
@@ -150,9 +151,10 @@ pub enum Refusal<'a> {
     DeadlineWithUnit,
     /// The key is not eight lower-case hexadecimal digits.
     BadKey,
-    /// The target names no end, with what is wrong with it; or no connection can be made at the address that is given
-    /// for it.
+    /// The target names no end, with what is wrong with it.
     BadAddress(Advice),
+    /// No connection can be made at the address that is given for the target.
+    BadConnect,
     /// A capture is asked for beside an earlier run or a document.
     CaptureInReport,
     /// A capture is asked for, and not exactly one case is given.
@@ -216,7 +218,7 @@ pub fn plan_run<'a>(
     };
     let named = end_named(alloc, options.role, options.target)?;
     if !can_connect(options.connect) {
-        return Err(Refusal::BadAddress(Advice::Nothing));
+        return Err(Refusal::BadConnect);
     }
     let tested = connected(alloc, named, options.connect)?;
     Ok(RunPlan {
@@ -400,9 +402,16 @@ fn can_connect(connect: Option<&str>) -> bool
     ensures { IsTrue result ↔ CanConnect connect.entry }
 {
     match connect {
-        Some(address) => is_address(address.as_bytes()),
+        Some(address) => is_connected_at(address),
         None => true,
     }
+}
+
+/// Whether a connection can be made at a word: it is a host and a port, and no URL.
+fn is_connected_at(word: &str) -> bool
+    ensures { IsTrue result ↔ IsConnectAddress word.now }
+{
+    is_address(word.as_bytes()) && !is_url(word)
 }
 
 /// The end, where a server is met at the address that is given, if one is.
@@ -466,6 +475,7 @@ pub fn tell_refusal<F: Write>(alloc: Global, refusal: Refusal<'_>, faults: &mut 
             faults,
         ),
         Refusal::BadAddress(advice) => tell_wrong(address_text(advice), faults),
+        Refusal::BadConnect => { tell_wrong(b"bad address\n  --connect takes HOST:PORT\n", faults) }
         Refusal::CaptureInReport => {
             tell_wrong(b"--capture does not go with --known or --junit\n", faults)
         }

@@ -5,20 +5,26 @@ ghost use Rattle.std.specs.Prelude.{◌≡◌, ◌+◌, ◌<◌, ◌^◌, ◌≤
 ghost use Rattle.ws_frame.specs.Devices.{watched};
 ghost use Rattle.ws_frame.specs.Watching.{has_failed};
 ghost use Rattle.ws_sweep.specs.Order.{max_steps};
+ghost use Rattle.wst_commands.specs.Devices.{StaysFailed};
+ghost use Rattle.wst_testing.specs.Hints.{hint_with, notes_with};
 ghost use Rattle.wst_testing.specs.Notes.{TellsEach};
 ghost use Rattle.wst_testing.specs.Sweeps.{CountsScripts, IsCounted, SweepsScripts, TellsSweepEnd, case_rules, is_told};
 ghost use Rattle.wst_testing.specs.Sweeps.{missed_by, script_line, script_notes, sweep_total, swept, whole_text};
 
 use crate::case_server::CaseServer;
+use crate::hinting::{HintState, tell_hint};
 use crate::outcome::{Outcome, Tally, is_enough};
+use crate::run_plans::TestedEnd;
 use crate::runner::{RunStop, Sink, run_cases};
 use crate::short_runs::{ShortRun, ShortRuns};
 use crate::testing::{RunRules, judged};
+use crate::tried::tell_missed;
 use std::alloc::Global;
 use std::io::Write;
 use ws_base::NoMemory;
 use ws_frame::{Watched, write_whole};
 use ws_suite::{Expectation, Verdict};
+use ws_sweep::script_count;
 use ws_wire::Role;
 use wst_commands::{Exit, Fault, tell, tell_fault};
 use wst_sockets::{ConnectFault, Meeting};
@@ -81,6 +87,7 @@ fn run_scripts<S: CaseServer, W: Write, F: Write>(
         rules,
         count: 0,
         tally: Tally::new(),
+        hint: HintState::of(script_count(rules.steps)),
         writer,
         faults,
     };
@@ -104,13 +111,16 @@ fn counted(
 }
 
 /// Writes the line of each script, where there is one to tell, as soon as it is judged, and counts them. The steps of
-/// a script are told to `faults` before it runs, where that is asked for.
+/// a script are told to `faults` before it runs, where that is asked for, and what the first ten have in common, where
+/// that says what to type.
 #[derive(Drop)]
 struct Sweeper<'w, 'f, W, F> {
     rules: SweepRules,
     /// So many scripts were run.
     count: usize,
     tally: Tally,
+    /// What they have in common.
+    hint: HintState,
     writer: &'w mut Watched<W>,
     faults: &'f mut Watched<F>,
 }
@@ -148,6 +158,7 @@ impl<W: Write, F: Write> Sink for Sweeper<'_, '_, W, F> {
             Ok(()) => {}
             Err(_) => return Err(RunStop::Output),
         }
+        self.hint = hint_behind(self.hint, &outcome, self.faults);
         self.tally = self.tally.with(&outcome);
         self.count = one_more(self.count);
         if is_enough(self.rules.max_fail, self.tally.fail) {
@@ -155,6 +166,17 @@ impl<W: Write, F: Write> Sink for Sweeper<'_, '_, W, F> {
         }
         Ok(())
     }
+}
+
+/// Tells what all scripts have in common behind the line of one more, where that is the place for it, and answers what
+/// they have in common then.
+fn hint_behind<F: Write>(hint: HintState, outcome: &Outcome, faults: &mut Watched<F>) -> HintState
+    ensures next { result ≡ hint_with hint outcome.now }
+    ensures told { TellsEach (notes_with hint outcome.now) (watched F.contents faults.old faults.new) }
+    ensures still { StaysFailed faults.old faults.new }
+{
+    tell_hint(hint, outcome, faults);
+    hint.with(outcome)
 }
 
 /// One more than so many.
@@ -254,19 +276,20 @@ pub fn total_of(alloc: Global, count: usize, tally: Tally) -> Result<String, NoM
     Ok(line)
 }
 
-/// Tells how a sweep ended, where there is something to tell, and answers the exit that it stands for.
+/// Tells how a sweep of this end ended, where there is something to tell, and answers the exit that it stands for.
 pub fn tell_sweep_end<F: Write>(
     alloc: Global,
     ended: Result<Exit, RunStop>,
+    tested: &TestedEnd<'_>,
     faults: &mut Watched<F>,
 ) -> Exit
-    ensures { TellsSweepEnd ended result (watched F.contents faults.old faults.new) }
+    ensures { TellsSweepEnd tested.now ended result (watched F.contents faults.old faults.new) }
 {
     match ended {
         Ok(exit) => exit,
         Err(RunStop::Enough | RunStop::Output) => Exit::Failed,
         Err(RunStop::NoConnection(why)) => {
-            tell(why.line(), faults);
+            tell_missed(tested, why, faults);
             Exit::Failed
         }
         Err(RunStop::NoMemory) => tell_fault(alloc, Fault::NoMemory, faults),

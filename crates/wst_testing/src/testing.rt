@@ -9,7 +9,7 @@ ghost use Rattle.ws_scripts.specs.Scripts.{CanBeRun};
 ghost use Rattle.wst_commands.specs.Devices.{Delivers, StaysFailed};
 ghost use Rattle.wst_testing.specs.Hints.{notes_with};
 ghost use Rattle.wst_testing.specs.Notes.{TellsEach, miss_notes, progress_notes};
-ghost use Rattle.wst_testing.specs.Outcomes.{is_missed, max_missed, told_refusal};
+ghost use Rattle.wst_testing.specs.Outcomes.{is_missed, max_missed, refused_lines, told_refusal};
 ghost use Rattle.wst_testing.specs.Reporter.{IsEndOfStop, WorksFor};
 ghost use Rattle.wst_testing.specs.Testing.{IsOutcomeOf, IsTested, RunsCases, test_line};
 ghost use Rattle.wst_commands.specs.declared.fault.Fault.TheVariants as variant;
@@ -17,8 +17,10 @@ ghost use Rattle.wst_testing.specs.declared.outcome.Outcome.TheVariants.{NoConne
 
 use crate::case_server::CaseServer;
 use crate::hinting::{HintState, tell_hint};
-use crate::outcome::{Below, Outcome, Reported, Score, report_case, tell_end};
+use crate::outcome::{Below, Outcome, Reported, Score, ToldRefusal, report_case, tell_end};
+use crate::run_plans::TestedEnd;
 use crate::runner::{ListedCases, RunStop, Sink, run_cases};
+use crate::tried::tell_tried;
 use std::alloc::Global;
 use std::io::Write;
 use ws_base::NoMemory;
@@ -56,20 +58,21 @@ pub struct RunRules {
 /// and the total last, with a summary and counts beside an earlier run where these are asked for (behind a document all
 /// of them go to `faults`). What can't be written ends the run, and so does, after it is told, an end to which there is
 /// no connection, or the third in a row. Behind enough failures it ends too, and the total is that of what was run. Why
-/// there is no connection is told to `faults`, the name of a case where that is asked
-/// for, and what the first ten cases have in common, where that says what to type.
+/// there is no connection is told to `faults`, at which address it was refused where that ended the run, the name of a
+/// case where that is asked for, and what the first ten cases have in common, where that says what to type.
 pub fn test_cases<S: CaseServer, W: Write, F: Write>(
     alloc: Global,
     server: &S,
     rules: RunRules,
     report: &Report,
     cases: &[Case],
+    tested: &TestedEnd<'_>,
     writer: &mut Watched<W>,
     faults: &mut Watched<F>,
 ) -> Result<Exit, Fault>
     requires works { has_failed writer.old ≡ false }
     requires can_be_run { All CanBeRun cases.now }
-    ensures runs { RunsCases (S.meets server.now rules.key) rules report.now cases.now result
+    ensures runs { RunsCases (S.meets server.now rules.key) rules report.now cases.now tested.now result
         (watched W.contents writer.old writer.new) (watched F.contents faults.old faults.new) }
     ensures still { StaysFailed faults.old faults.new }
 {
@@ -87,27 +90,34 @@ pub fn test_cases<S: CaseServer, W: Write, F: Write>(
     let ended = run_cases(alloc, server, rules.key, &mut listed, &mut reporter);
     match ended {
         Ok(()) => tell_end(alloc, report, &score, writer, faults),
-        Err(why) => stopped_by(alloc, why, report, &score, writer, faults),
+        Err(why) => stopped_by(alloc, why, tested, report, &score, writer, faults),
     }
 }
 
-/// How a run ends that was stopped for this reason: where enough was run, with the total of that.
+/// How a run ends that was stopped for this reason: where enough was run, with the total of that. Where a connection
+/// was refused, it is told at which address.
 fn stopped_by<W: Write, F: Write>(
     alloc: Global,
     why: RunStop,
+    tested: &TestedEnd<'_>,
     report: &Report,
     score: &Score,
     writer: &mut Watched<W>,
     faults: &mut Watched<F>,
 ) -> Result<Exit, Fault>
     requires { WorksFor why (has_failed writer.old) }
-    ensures is { IsEndOfStop report.now score.now why result (writer.new ≡ writer.old) (faults.new ≡ faults.old)
-        (watched W.contents writer.old writer.new) (watched F.contents faults.old faults.new) }
+    ensures is { IsEndOfStop tested.now report.now score.now why result (writer.new ≡ writer.old)
+        (faults.new ≡ faults.old) (watched W.contents writer.old writer.new)
+        (watched F.contents faults.old faults.new) }
     ensures still { StaysFailed faults.old faults.new }
 {
     match why {
         RunStop::Enough => tell_end(alloc, report, score, writer, faults),
-        RunStop::Output | RunStop::NoConnection(_) => Ok(Exit::Failed),
+        RunStop::Output => Ok(Exit::Failed),
+        RunStop::NoConnection(why) => {
+            tell_tried(tested, why, faults);
+            Ok(Exit::Failed)
+        }
         RunStop::NoMemory => Err(Fault::NoMemory),
     }
 }
@@ -266,15 +276,27 @@ pub(crate) fn judged(alloc: Global, rules: RunRules, meeting: Meeting) -> Result
     }
 }
 
-/// What is told of a refusal: its status where that is why, and where it is told why.
-fn told_refusal(explains: bool, refusal: HeadRefusal) -> HeadRefusal
+/// What is told of a refusal where it is told why: its status where that is why, and the rule.
+pub(crate) fn told_refusal(explains: bool, refusal: HeadRefusal) -> ToldRefusal
     ensures { result ≡ told_refusal explains refusal }
 {
     let is_told = explains && matches!(refusal.fault, HeadFault::Status);
-    HeadRefusal {
+    ToldRefusal {
         fault: refusal.fault,
         status: if is_told { refusal.status } else { None },
+        has_rule: explains,
     }
+}
+
+/// What is told of a head that is to be refused where it stands alone: its words, and below them its status, where that
+/// is why, and the rule.
+pub fn refused_lines(alloc: Global, refusal: HeadRefusal) -> Result<String, NoMemory>
+    ensures { IfOk result (λ lines. string_bytes lines ≡ refused_lines refusal) }
+{
+    let outcome = Outcome::HeadRefused(told_refusal(true, refusal));
+    let below = Below(&outcome);
+    let lines = format!(in alloc; "{outcome}\n{below}")?;
+    Ok(lines)
 }
 
 /// Writes the line of a case, and what stands below it, and answers this exit, or that of a failure.

@@ -7,6 +7,7 @@ use Rattle.wst_commands.proofs.Delivering.{delivers_same}
 use Rattle.wst_commands.specs.declared.exit.Exit.TheVariants.{Done}
 use Rattle.wst_commands.specs.declared.fault.Fault.TheVariants.{NoMemory}
 use Rattle.wst_clients.specs.ClientLines.{lines_for}
+use Rattle.wst_clients.specs.ClientTests.{RunsVisits}
 use Rattle.wst_testing.specs.Reporting.{no_score}
 use Rattle.ws_paths.specs.Standings.{StandingValue, none_run}
 use Rattle.wst_clients.specs.VisitOutcomes.{ComesTo, after_outcome, ends_with_outcome, outcome_notes, tests_in}
@@ -55,9 +56,30 @@ returns-in-Err-TooLate-clause-runs g c =
     let MayBeLate = g.C.Clients.may_be_late c.args.clients.now in
     visits_late MayBeLate (ComesTo (g.C.TestedClients.visits c.args.clients.now given) given) given at.visited
     at.standing at.score (g.W.Write.contents (inner_of c.args.writer.now)) (g.W.Write.contents (inner_of at.writer))
-    (has_failed at.writer) (watched g.F.Write.contents c.args.faults.now at.faults) at.invariant.run
-    at.invariant.works
+    (has_failed at.writer) (has_failed at.faults) (has_failed c.tell_late.new.faults)
+    (g.F.Write.contents (inner_of c.args.faults.now)) (g.F.Write.contents (inner_of at.faults))
+    (g.F.Write.contents (inner_of c.tell_late.new.faults)) at.invariant.run at.invariant.works
     (subst (λ (why : NoClient). IsWhy MayBeLate why) c.in-Err-TooLate.field-0-is c.in-Err-TooLate.ensures)
+    c.in_ok-tell_late-in-Err-TooLate.ensures.still c.in_ok-tell_late-in-Err-TooLate.ensures.told
+
+pub returns-in_err-tell_late-in-Err-TooLate-clause-runs : goal.returns-in_err-tell_late-in-Err-TooLate-clause-runs
+returns-in_err-tell_late-in-Err-TooLate-clause-runs g c =
+    let given = c.args.rules.now in
+    let at = c.loop-visited in
+    let held = g.F.Write.contents (inner_of at.faults) in
+    let failed = has_failed at.faults in
+    let lacks : IsErrAnd c.from_residual-in_err-tell_late-in-Err-TooLate.result (λ fault. fault ≡ NoMemory) =
+    search rules in
+    let MayBeLate = g.C.Clients.may_be_late c.args.clients.now in
+    let Comes = ComesTo (g.C.TestedClients.visits c.args.clients.now given) given in
+    subst (λ w. RunsVisits MayBeLate Comes given c.from_residual-in_err-tell_late-in-Err-TooLate.result
+    (watched g.W.Write.contents c.args.writer.now at.writer) (watched g.F.Write.contents c.args.faults.now w))
+    (sym c.in_err-tell_late-in-Err-TooLate.ensures.kept)
+    (visits_err MayBeLate Comes given at.visited at.standing at.score
+    (g.W.Write.contents (inner_of c.args.writer.now)) (g.W.Write.contents (inner_of at.writer)) (has_failed at.writer)
+    failed failed (g.F.Write.contents (inner_of c.args.faults.now)) held held []
+    c.from_residual-in_err-tell_late-in-Err-TooLate.result at.invariant.run at.invariant.works (λ f. f) (inl refl)
+    (Keeps-refl held) lacks)
 
 pub returns-in-Err-TooLate-clause-fits : goal.returns-in-Err-TooLate-clause-fits
 returns-in-Err-TooLate-clause-fits g c =

@@ -1,5 +1,5 @@
 -- The address is told, and the script is sent behind it.
-use Rattle.std.proofs.Common.{◌≡◌, ◌∙◌, ℕ, List, ap, inl, refl, subst, sym}
+use Rattle.std.proofs.Common.{◌∙◌, ℕ, List, ap, inl, refl, subst, sym}
 use Rattle.wst_commands.specs.declared.time_limit.TimeLimit.{TimeLimit}
 use Rattle.wst_run.specs.ClientRuns.{SendsScript}
 use Rattle.wst_sockets.specs.declared.clients.Waits.{Waits}

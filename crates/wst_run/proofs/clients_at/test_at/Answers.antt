@@ -1,5 +1,5 @@
 -- What is told of the address is told.
-use Rattle.std.proofs.Common.{◌≡◌, ◌∙◌, ℕ, List, ap, inl, subst, sym}
+use Rattle.std.proofs.Common.{◌∙◌, ℕ, List, ap, inl, subst, sym}
 use Rattle.ws_frame.specs.Devices.{watched}
 use Rattle.wst_commands.specs.declared.time_limit.TimeLimit.{TimeLimit}
 use Rattle.wst_run.specs.ClientRuns.{TestsToldAt}

@@ -1,5 +1,5 @@
 -- Each option was judged, and the connection is made where the words say.
-use Rattle.std.proofs.Common.{rules, ◌≡◌, ℕ, List, inr, refl, subst, sym}
+use Rattle.std.proofs.Common.{rules, ◌≡◌, ℕ, List, refl, subst, sym}
 use Rattle.std.proofs.lemmas.Result.{err_from_is_err_and}
 use Rattle.ws_formats.specs.Words.{IsKeyWord}
 use Rattle.ws_connection.specs.Protocols.{protocols_given}
@@ -57,7 +57,8 @@ returns-then-not-can_connect c =
         ),
         (c.in-Some-read_key.key, key),
       ),
-      inr ((c.in_ok-named.named, c.in_ok-named.ensures), can_not, refl),
+      (c.in_ok-named.named, c.in_ok-named.ensures),
+      can_not,
     )
 
 pub returns-in_default-wait_given : goal.returns-in_default-wait_given

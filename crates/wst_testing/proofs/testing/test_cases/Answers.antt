@@ -49,7 +49,7 @@ returns-in-Ok-clause-runs g c =
     let ended = subst (λ (t : Score). EndsReporting c.args.report.now t c.tell_end.result
     (c.tell_end.new.writer ≡ writer) (c.tell_end.new.faults ≡ faults) (watched g.W.Write.contents writer c.tell_end.new.writer)
     (watched g.F.Write.contents faults c.tell_end.new.faults)) scored c.tell_end.ensures.is in
-    run_told (g.S.CaseServer.meets c.args.server.now c.args.rules.key) c.args.rules c.args.report.now c.args.cases.now
+    run_told (g.S.CaseServer.meets c.args.server.now c.args.rules.key) c.args.rules c.args.report.now c.args.cases.now c.args.tested.now
     runs.came new.score.now new.missed new.hint (g.W.Write.contents (inner_of c.args.writer.now))
     (g.W.Write.contents (inner_of writer)) (g.W.Write.contents (inner_of c.tell_end.new.writer)) (has_failed writer)
     (has_failed c.tell_end.new.writer) (has_failed faults) (has_failed c.tell_end.new.faults)
@@ -66,7 +66,7 @@ stopped_by-requires g c =
     let place = hint_place (length c.args.cases.now) in
     let writer = c.writer-1.given.0 in
     let written : writer ≡ new.writer.now = search rules in
-    run_works (g.S.CaseServer.meets c.args.server.now c.args.rules.key) c.args.rules c.args.report.now c.args.cases.now
+    run_works (g.S.CaseServer.meets c.args.server.now c.args.rules.key) c.args.rules c.args.report.now c.args.cases.now c.args.tested.now
     _ _ c.of-listed.result _ new new.score.now c.in-Err.why (watched g.W.Write.contents c.args.writer.now writer)
     (watched g.F.Write.contents c.args.faults.now new.faults.now)
     (λ came why (so, still). subst (λ w. StopsReport c.args.rules c.args.report.now place came new.score.now why
@@ -86,11 +86,11 @@ returns-clause-runs g c =
     let written : writer ≡ new.writer.now = search rules in
     let noted : faults ≡ new.faults.now = search rules in
     let scored : c.score-2-1.given.0 ≡ new.score.now = search rules in
-    let ended = subst (λ (t : Score). IsEndOfStop c.args.report.now t c.in-Err.why c.stopped_by.result
+    let ended = subst (λ (t : Score). IsEndOfStop c.args.tested.now c.args.report.now t c.in-Err.why c.stopped_by.result
     (c.stopped_by.new.writer ≡ writer) (c.stopped_by.new.faults ≡ faults)
     (watched g.W.Write.contents writer c.stopped_by.new.writer)
     (watched g.F.Write.contents faults c.stopped_by.new.faults)) scored c.stopped_by.ensures.is in
-    run_ended (g.S.CaseServer.meets c.args.server.now c.args.rules.key) c.args.rules c.args.report.now c.args.cases.now
+    run_ended (g.S.CaseServer.meets c.args.server.now c.args.rules.key) c.args.rules c.args.report.now c.args.cases.now c.args.tested.now
     _ _ _ c.of-listed.result _ new new.score.now (g.W.Write.contents (inner_of c.args.writer.now))
     (g.W.Write.contents (inner_of writer)) (g.W.Write.contents (inner_of c.stopped_by.new.writer)) (has_failed writer)
     (has_failed c.stopped_by.new.writer) (has_failed faults) (has_failed c.stopped_by.new.faults)

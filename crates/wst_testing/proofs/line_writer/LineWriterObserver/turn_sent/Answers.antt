@@ -16,11 +16,11 @@ begin_turn-requires-clause-room g c =
 pub flush-requires : goal.flush-requires
 flush-requires g c =
     let (start, turns, h) = c.requires in
-    let (more, appends, (fine, told)) = c.in_ok-begin_turn.ensures.told start.showing turns h.written h.told in
+    let (more, appends, fine, told) = c.in_ok-begin_turn.ensures start.showing turns h.written h.told in
     fine
 
 pub returns-clause-heard : goal.returns-clause-heard
 returns-clause-heard g c = λ start turns h.
     let places = c.in-Some.ensures in
     turn_written start.showing c.args.self.now.lines.now c.begin_turn.new.self c.args.self.now.places c.in-Some.places turns c.args.sent.now _ _ _
-    (g.W.Write.contents (inner_of start.writer.now)) _ _ _ c.in_ok-flush.ensures.works h c.in_ok-begin_turn.ensures.told c.flush.ensures.kept places.turns places.sent places.got
+    (g.W.Write.contents (inner_of start.writer.now)) _ _ _ c.in_ok-flush.ensures.works h c.in_ok-begin_turn.ensures c.flush.ensures.kept places.turns places.sent places.got
