@@ -47,4 +47,22 @@ def what_was_not_tried_stays_recorded(clone):
     assert clone.run("--list", how=TOOL)[1] == "one: 1 of 2\ntwo: 1 of 1\n"
 
 
-TESTS = [each_crate_is_recorded_once_it_was_tried, what_was_not_tried_stays_recorded]
+def what_a_file_says_was_refused_is_kept_where_it_is_of_these_files(clone):
+    plant(clone)
+    clone.run(how=TOOL)
+    record = clone.top / "wrong_bodies/refused.txt"
+    lines = record.read_text()
+    clone.write("refused", lines + "one/second 0123456789abcdef\none/third 0123456789abcdef\n")
+    record.unlink()
+    status, out, faults = clone.run("--refused", "refused", how=TOOL)
+    assert (status, out) == (1, "wrong bodies: 2 passed, 2 failed\n"), (status, out, faults)
+    assert record.read_text() == lines
+    assert clone.notes() == ["one/first", "then two"], clone.notes()
+    assert clone.run("--refused", "nothing", how=TOOL)[0] == 2
+
+
+TESTS = [
+    each_crate_is_recorded_once_it_was_tried,
+    what_was_not_tried_stays_recorded,
+    what_a_file_says_was_refused_is_kept_where_it_is_of_these_files,
+]

@@ -6,6 +6,7 @@ import socket
 import subprocess
 import time
 
+from send_lines import NO_ECHO
 from server import SECONDS, Client, Running, run, start
 from sweep_lines import FORTY
 from wire import BAD_REQUEST, NAMES_CHAT, OFFERING, OTHER_VERSION, REQUEST, RESPONSE
@@ -279,6 +280,40 @@ def a_fault_of_a_script_that_is_answered_late():
     )
 
 
+def a_client_that_sends_a_text_of_its_own():
+    """It is no echo, and what to add is said once, but not where none is expected."""
+    for options, faults in (((), NO_ECHO), (("--expect=protocol",), b"")):
+        run = Listening("send", "--timeout=1", *options, ADDRESS, told="faults", text=b"close=1000\n")
+        client = run.client()
+        client.send(A_BACK)
+        assert client.get(len(CLOSE)) == CLOSE
+        assert client.rest() == b""
+        client.close()
+        run.ends(
+            "turn 1",
+            "> 0 close fin=1 rsv=0 key=- len=2 short 03e8",
+            "< 0 text fin=1 rsv=0 key=00000000 len=1 short 61",
+            "end tester",
+            faults=faults,
+        )
+
+
+def a_client_that_sends_no_text():
+    """The frame is marked whose payload is the first violation."""
+    run = Listening("send", ADDRESS, told="faults", text=b'text "a"\n')
+    client = run.client()
+    assert client.get(3) == b"\x81\x01a"
+    client.send(bytes.fromhex("818100000000ff"))
+    assert client.rest() == b""
+    client.close()
+    run.ends(
+        "turn 1",
+        "> 0 text fin=1 rsv=0 key=- len=1 short 61",
+        "< 0 text fin=1 rsv=0 key=00000000 len=1 short ff !text",
+        "end tester",
+    )
+
+
 def a_budget_of_a_client():
     """A text of no bytes and a close are 14 bytes. Of one less the close isn't whole. Of 6 the text is, so its turn is
     over and the next one is sent, of which nothing is read."""
@@ -371,12 +406,14 @@ def no_client_in_time():
     for options in ((), ("--timeout=5",)):
         started = time.monotonic()
         run = Listening("test", "--wait=1", *options, ADDRESS, "1.1.1", "2.1")
-        run.ends("1.1.1 FAIL NotRun", "2.1 FAIL NotRun", "0 pass, 0 loose, 2 fail", status=1)
+        late = b"no client for 1 seconds: 0 of 2 cases were run\n"
+        run.ends("1.1.1 FAIL NotRun", "2.1 FAIL NotRun", "0 pass, 0 loose, 2 fail", status=1, faults=late)
         assert 0.9 < time.monotonic() - started < SECONDS
 
 
 def no_further_client_in_time():
-    """Each client is waited for so long. One that stays for longer than that is waited for."""
+    """Each client is waited for so long. One that stays for longer than that is waited for. A case that was run twice is
+    one that was run."""
     run = Listening("test", "--wait=2", ADDRESS, "1.1.1", "2.1")
     time.sleep(1.2)
     client = run.client("/runCase?case=1")
@@ -391,13 +428,15 @@ def no_further_client_in_time():
     assert run.asks(REQUEST.replace(b"GET", b"PUT")) == BAD_REQUEST
     time.sleep(1.2)
     right_client(run, "/runCase?case=1")
-    run.ends("1.1.1 PASS", "2.1 FAIL NotRun", "2 pass, 0 loose, 1 fail", status=1, faults=b"refused Method\n")
+    late = b"refused Method\nno client for 2 seconds: 1 of 2 cases were run\n"
+    run.ends("1.1.1 PASS", "2.1 FAIL NotRun", "2 pass, 0 loose, 1 fail", status=1, faults=late)
 
 
 def all_cases_and_then_none_in_time():
     run = Listening("test", "--wait=1", ADDRESS, "1.1.1")
     right_client(run, "/runCase?case=1")
-    run.ends("1.1.1 PASS", "1 pass, 0 loose, 0 fail")
+    late = b"no client for 1 seconds: 1 of 1 cases were run\n"
+    run.ends("1.1.1 PASS", "1 pass, 0 loose, 0 fail", faults=late)
 
 
 def no_client_in_time_for_a_capture():
@@ -413,7 +452,8 @@ def no_client_in_time_for_a_script():
 
 def no_client_in_time_for_a_sweep():
     run = Listening("sweep", "--wait=1", "--steps=0", ADDRESS)
-    run.ends("FAIL NotRun: close=1000", "1 scripts: 0 pass, 0 loose, 1 fail", status=1)
+    late = b"no client for 1 seconds: 0 of 1 cases were run\n"
+    run.ends("FAIL NotRun: close=1000", "1 scripts: 0 pass, 0 loose, 1 fail", status=1, faults=late)
 
 
 def progress():
@@ -599,6 +639,7 @@ def a_document_beside_an_earlier_run():
         '<?xml version="1.0" encoding="UTF-8"?>',
         '<testsuites><testsuite name="wst 127.0.0.1:0">',
         '<testcase classname="wst" name="1.1.1 Empty text message"><failure type="PASS" message="PASS (new)">',
+        "no known verdict: write the known verdicts again",
         "</failure></testcase>",
         '<testcase classname="wst" name="1.1.2 Text message of 125 bytes"><skipped message="FAIL NotRun"/></testcase>',
         "</testsuite></testsuites>",
@@ -612,7 +653,7 @@ def no_listener():
         address = f"127.0.0.1:{taken.getsockname()[1]}"
         for words in (["test", address], ["test", "--capture", address, "1.1.1"], ["sweep", address]):
             assert run(words[0], "--role=client", *words[1:]) == (3, b"", b"not listening: address in use\n")
-    assert run("test", "--role=client", "127.0.0.1", "1.1.1") == (3, b"", b"not listening: no such host\n")
+    assert run("test", "--role=client", "127.0.0.1", "1.1.1") == (3, b"", b"not listening: no such host\n  HOST:PORT to listen at, up to 65535: localhost:9001\n")
     told = b"bad address\n  an address to listen at is wanted: HOST:PORT\n"
     assert run("test", "--role=client", "ws://127.0.0.1:1", "1.1.1") == (2, b"", told)
 
@@ -634,7 +675,7 @@ def no_host_to_listen_at():
         assert run("test", "--role=client", "--key=x", address) == (2, b"", b"bad key\n  eight lower-case hexadecimal digits: --key 37fa213d\n"), address
         assert run("sweep", "--role=client", "--steps=5", address) == (2, b"", b"--steps takes 0 to 4\n"), address
     longest = "a" * 250 + ":9001"
-    assert run("sweep", "--role=client", "--steps=0", longest) == (3, b"", b"not listening: no such host\n")
+    assert run("sweep", "--role=client", "--steps=0", longest) == (3, b"", b"not listening: no such host\n  HOST:PORT to listen at, up to 65535: localhost:9001\n")
     told = b"bad address\nwss:// is not supported; run socat or stunnel and pass its address to --connect\n"
     assert run("test", "--role=client", "wss: b", "1.1.1") == (2, b"", told)
 
@@ -653,6 +694,8 @@ TESTS = [
     a_client_that_is_silent,
     a_fault_that_is_answered_late,
     a_fault_of_a_script_that_is_answered_late,
+    a_client_that_sends_a_text_of_its_own,
+    a_client_that_sends_no_text,
     a_budget_of_a_client,
     clients_that_send_on,
     a_client_that_resets,

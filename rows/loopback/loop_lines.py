@@ -232,6 +232,26 @@ def no_client_comes_in_time():
     assert (used := processor_time_since(before)) < 0.1, f"{used:.2f} s"
 
 
+def descriptors_that_run_out():
+    """It is told once, and whoever waits is taken when the other one has ended. Meanwhile less than a tenth is used."""
+    before = resource.getrusage(resource.RUSAGE_CHILDREN)
+    accepting = Accepting(3, 2, "-", 1, 100, 1)
+    with accepting.client() as first:
+        assert got(first, 1) == counted(1)
+        most = 1 + max(int(name) for name in os.listdir(f"/proc/{accepting.run.pid}/fd"))
+        resource.prlimit(accepting.run.pid, resource.RLIMIT_NOFILE, (most, most))
+        with accepting.client() as second, accepting.client():
+            threading.Event().wait(1)
+            first.shutdown(socket.SHUT_WR)
+            assert first.recv(1) == b""
+            assert got(second, 1) == counted(1)
+            second.shutdown(socket.SHUT_WR)
+            assert second.recv(1) == b""
+            answer = accepting.answer()
+    assert answer == "failed; came 0 right; failed; came 0 right; ", answer
+    assert (used := processor_time_since(before)) < 0.1, f"{used:.2f} s"
+
+
 def it_listens_at_an_address_of_a_name():
     """localhost has two addresses on most machines, of which the first can't be listened at everywhere."""
     accepting = Accepting(1, 1, "-", 1, 1, 1, host="localhost")
@@ -291,6 +311,7 @@ TESTS = [
     two_clients_of_one_loop,
     a_third_client_waits_for_a_place,
     no_client_comes_in_time,
+    descriptors_that_run_out,
     it_listens_at_an_address_of_a_name,
     it_listens_at_another_address_of_a_name,
     an_address_that_is_taken,

@@ -57,13 +57,14 @@ def a_missing_connection_counts():
     """With --timeout, where the third in a row ends a run by itself."""
     address = f"127.0.0.1:{free_port()}"
     refused = b"no connection: refused\n"
+    tried = f"  tried {address}\n".encode()
     one, two = b"1.1.1 no connection\n", b"1.1.1 no connection\n1.1.1 no connection\n"
     cases = ["1.1.1"] * 4
     for words, told in (
         (("--max-fail=1", "--timeout=5"), (1, one + b"0 pass, 0 loose, 1 fail\n", refused)),
         (("--max-fail=2", "--timeout=5"), (1, two + b"0 pass, 0 loose, 2 fail\n", refused * 2)),
-        (("--max-fail=3", "--timeout=5"), (3, two + one, refused * 3)),
-        (("--max-fail=1",), (3, one, refused)),
+        (("--max-fail=3", "--timeout=5"), (3, two + one, refused * 3 + tried)),
+        (("--max-fail=1",), (3, one, refused + tried)),
     ):
         assert run("test", *words, address, *cases) == told, words
 

@@ -22,6 +22,8 @@ ANSWERS = {
 }
 
 NAME = "1.1.1 Empty text message"
+FIXED = "fixed: write the known verdicts again\n"
+STATUS_RULE = "  rule A server accepts a connection with the status 101 (RFC 6455 section 4.1)\n"
 BELOW_FAIL = """  due 1 text -
   due 2 close 1000
   got 1 binary -
@@ -35,7 +37,8 @@ BELOW_LOOSE = """  due 1 text -
   got 2 close 1001
   end peer 2
   rule A close frame after a violation has the code for that violation (RFC 6455 section 7.4.1), and one that \
-answers a valid close frame typically has its code (section 5.5.1)
+answers a valid close frame typically has its code (section 5.5.1); another code is told also of an endpoint that \
+closes first (ours)
 """
 
 
@@ -125,9 +128,12 @@ def no_connection_that_is_known():
         ("FAIL End", ["--timeout", "1"], (1, "1.1.1 no connection (was FAIL End)\n0 pass, 0 loose, 1 fail\n" + counts(changed=1))),
         ("no connection", [], (3, "1.1.1 no connection\n")),
     ):
-        process = start("test", "--known", *words, f"127.0.0.1:{free_port()}", "1.1.1", stdin=subprocess.PIPE)
+        address = f"127.0.0.1:{free_port()}"
+        process = start("test", "--known", *words, address, "1.1.1", stdin=subprocess.PIPE)
         output, faults = process.communicate(f"1.1.1 {known}\n".encode(), timeout=SECONDS)
-        assert (process.returncode, output.decode(), faults.decode()) == (*told_of_it, refused), (known, output)
+        tried = "" if words else f"  tried {address}\n"
+        told = (process.returncode, output.decode(), faults.decode())
+        assert told == (*told_of_it, refused + tried), (known, output, faults)
 
 
 def a_connection_that_is_dropped_in_the_middle():
@@ -183,7 +189,7 @@ def a_document_of_each_verdict():
         (NAME,),
         (NAME, ("system-out", None, f"LOOSE OtherCode\n{BELOW_LOOSE}")),
         (NAME, ("failure", "FAIL Messages", f"\n{BELOW_FAIL}")),
-        (NAME, ("failure", "FAIL Head Status", "\n  status 403\n")),
+        (NAME, ("failure", "FAIL Head Status", f"\n  status 403\n{STATUS_RULE}")),
     ], document
 
 
@@ -192,8 +198,8 @@ def a_document_beside_an_earlier_run():
     status, document, faults, url = test(["--junit", "--known"], verdicts, "1.1.1 FAIL Messages\n")
     assert (status, faults) == (1, "1 pass, 1 loose, 1 fail\n" + counts(same=1, fixed=2)), (status, faults)
     assert read_document(document, url) == [
-        (NAME, ("failure", "PASS (was FAIL Messages)", "\n")),
-        (NAME, ("failure", "LOOSE OtherCode (was FAIL Messages)", f"\n{BELOW_LOOSE}")),
+        (NAME, ("failure", "PASS (was FAIL Messages)", f"\n{FIXED}")),
+        (NAME, ("failure", "LOOSE OtherCode (was FAIL Messages)", f"\n{FIXED}{BELOW_LOOSE}")),
         (NAME, ("skipped", "FAIL Messages", None)),
     ], document
     assert test(["--junit", "--known"], ["FAIL Messages"], "1.1.1 FAIL Messages\n")[0] == 0
@@ -228,7 +234,7 @@ def a_document_beside_an_earlier_run_that_ends_early():
     assert status == 3, (status, faults)
     missed = (NAME, ("failure", "no connection (was FAIL Messages)", "\n"))
     assert read_document(document, url) == [
-        (NAME, ("failure", "PASS (was FAIL Messages)", "\n")),
+        (NAME, ("failure", "PASS (was FAIL Messages)", f"\n{FIXED}")),
         (NAME, ("skipped", "FAIL Messages", None)),
         missed,
         missed,

@@ -18,6 +18,10 @@ SENT_CLOSE = "> 11 close fin=1 rsv=0 key=37fa213d len=2 short 03e8"
 GOT_CLOSE = "< 7 close fin=1 rsv=0 key=- len=2 short 03e8"
 BY_TURNS = f"{TURN_1}\n{SENT_HELLO}\n{GOT_HELLO}\nturn 2\n{SENT_CLOSE}\n{GOT_CLOSE}\nend peer\n"
 BINARY_16_MIB = b"binary 00*16777216\n"
+NO_ECHO = b"the replies are not those of an echo: if the endpoint doesn't echo, add --expect protocol\n"
+# A text "hi" of a server (section 5.2).
+GREETING = b"\x81\x02hi"
+GOT_GREETING = "< 0 text fin=1 rsv=0 key=- len=2 short 6869"
 
 
 class Sent(Tested):
@@ -135,11 +139,36 @@ def an_end_inside_a_frame():
     server.ends(f"{TURN_1}\n{SENT_HELLO}\n{GOT_HELLO}\n< cut at 7\nend peer\n")
 
 
+def a_server_that_greets():
+    """It is no echo: the last turn ends with its close, and what to add is said once, but not beside a capture."""
+    for options, shown in (((), True), (("--capture",), False)):
+        server = Sent(WITH_CLOSE, *options)
+        client = server.accepted(RESPONSE + GREETING)
+        assert client.get(len(HELLO + MASKED_CLOSE)) == HELLO + MASKED_CLOSE
+        lines = f"{TURN_1}\n{SENT_HELLO}\n{GOT_GREETING}\nturn 2\n{SENT_CLOSE}\nend tester\n"
+        capture = (
+            f"wst-capture 2\nkey 37fa213d\nturn\n> {HELLO.hex()}\n< {GREETING.hex()}\n"
+            f"turn\n> {MASKED_CLOSE.hex()}\nend tester\n"
+        )
+        server.ends(lines if shown else capture, faults=NO_ECHO if shown else b"")
+        client.close()
+
+
+def a_server_that_greets_and_need_not_echo():
+    server = Sent(WITH_CLOSE, "--expect=protocol")
+    client = server.accepted(RESPONSE + GREETING)
+    assert client.get(len(HELLO + MASKED_CLOSE)) == HELLO + MASKED_CLOSE
+    client.send(CLOSE_BACK)
+    client.close()
+    got_close = GOT_CLOSE.replace("< 7", "< 4")
+    server.ends(f"{TURN_1}\n{SENT_HELLO}\n{GOT_GREETING}\nturn 2\n{SENT_CLOSE}\n{got_close}\nend peer\n")
+
+
 def a_server_that_never_answers():
     server = Sent(SCRIPT)
     client = server.accepted(RESPONSE)
     begun = time.monotonic()
-    server.ends(f"{TURN_1}\n{SENT_HELLO}\nend tester\n")
+    server.ends(f"{TURN_1}\n{SENT_HELLO}\nend tester\n", faults=NO_ECHO)
     assert 1.5 < time.monotonic() - begun < 5
     client.close()
 
@@ -148,7 +177,8 @@ def a_request_that_is_never_answered():
     server = Sent(SCRIPT)
     client = server.next()
     begun = time.monotonic()
-    server.ends("", status=3, faults=b"no connection: timed out\n")
+    silent = b"no connection: timed out\n  connected, but no complete answer to the request in time\n"
+    server.ends("", status=3, faults=silent)
     assert 1.5 < time.monotonic() - begun < 5
     client.close()
 
@@ -182,6 +212,35 @@ def a_frame_that_no_client_may_send():
         f"{TURN_1}\n> 0 text fin=1 rsv=0 key=- len=5 short 48656c6c6f !mask\n"
         "< 0 close fin=1 rsv=0 key=- len=2 short 03ea\nend peer\n"
     )
+
+
+def a_text_that_is_none():
+    """In each direction the frame is marked whose payload is the first violation, as soon as its line comes."""
+    server = Sent(b"text ff\n")
+    client = server.accepted(RESPONSE)
+    not_text = bytes.fromhex("818137fa213dc8")
+    assert client.get(len(not_text)) == not_text
+    assert server.line() == TURN_1
+    assert server.line() == "> 0 text fin=1 rsv=0 key=37fa213d len=1 short ff !text"
+    client.send(b"\x01\x01\xe2")
+    assert server.line() == "< 0 text fin=0 rsv=0 key=- len=1 short e2"
+    client.send(b"\x80\x01")
+    assert server.says_nothing_for(0.2)
+    client.send(b"(")
+    assert server.line() == "< 3 cont fin=1 rsv=0 key=- len=1 short 28 !text"
+    client.close()
+    server.ends("end tester\n")
+
+
+def a_close_of_one_byte():
+    """It is marked, and no other frame; nor is one behind it, which comes with it."""
+    server = Sent(SCRIPT)
+    client = server.accepted(RESPONSE)
+    assert client.get(len(HELLO)) == HELLO
+    client.send(HELLO_BACK, b"\x88\x01\x03", b"\x81\x01\xff")
+    client.close()
+    got = "< 7 close fin=1 rsv=0 key=- len=1 short 03 !close\n< 10 text fin=1 rsv=0 key=- len=1 short ff\n"
+    server.ends(f"{TURN_1}\n{SENT_HELLO}\n{GOT_HELLO}\n{got}end tester\n")
 
 
 def a_capture():
@@ -222,19 +281,23 @@ def a_refused_answer():
     server = Sent(SCRIPT)
     client = server.accepted(with_line(RESPONSE, b"Sec-WebSocket-Protocol: chat"))
     client.close()
-    server.ends("", status=1, faults=b"FAIL Head Protocol\n")
+    rule = b"  rule A response names at most one subprotocol, and one that was offered (RFC 6455 section 4.1)\n"
+    server.ends("", status=1, faults=b"FAIL Head Protocol\n" + rule)
 
 
 def a_refused_answer_in_place_of_a_capture():
     server = Sent(SCRIPT, "--capture")
     client = server.accepted(with_line(RESPONSE, b"Sec-WebSocket-Extensions: x"))
     client.close()
-    server.ends("", status=1, faults=b"FAIL Head Extension\n")
+    rule = b"  rule A response names no extension that was not offered, and none was (RFC 6455 section 4.1)\n"
+    server.ends("", status=1, faults=b"FAIL Head Extension\n" + rule)
 
 
 def no_connection():
     address = f"127.0.0.1:{free_port()}"
-    assert run("send", address) == (3, b"", b"no connection: refused\n")
+    assert run("send", address) == (3, b"", f"no connection: refused\n  tried {address}\n".encode())
+    connected = run("send", "--connect", address, "ws://localhost/chat")
+    assert connected == (3, b"", f"no connection: refused\n  tried {address}\n".encode())
 
 
 def an_answer_that_is_cut():
@@ -249,7 +312,7 @@ def an_answer_that_is_cut():
 def no_script():
     """It is read first, and nothing is asked for."""
     server = Sent(b"text 6\n")
-    server.ends("", status=1, faults=b"line 1: not a step\n")
+    server.ends("", status=1, faults=b"line 1: not a step\n  the payload is one word, of pairs of digits: binary 00ff\n")
     assert server.has_no_more_clients()
 
 
@@ -279,8 +342,8 @@ def our_own_server():
 
 
 def each_case_as_a_script():
-    """Over our echo the text of a case gives the capture of the case, byte for byte, and as lines those of this capture.
-    One case has data that look like another code, which is remarked."""
+    """Over our echo the text of a case gives the capture of the case, byte for byte, and as lines those of this capture
+    with its marks. One case has data that look like another code, which is remarked."""
     remarks = {"7.7.13": b"line 1: close 1387 is code 4999; close=1387 is code 1387\n"}
     status, listed, _ = run("cases")
     names = [line.split()[0].decode() for line in listed.splitlines()]
@@ -333,11 +396,15 @@ TESTS = [
     an_answer_in_the_middle_of_a_turn,
     a_frame_before_anything_was_sent,
     an_end_inside_a_frame,
+    a_server_that_greets,
+    a_server_that_greets_and_need_not_echo,
     a_server_that_never_answers,
     a_request_that_is_never_answered,
     a_budget_that_is_used_up,
     a_reset,
     a_frame_that_no_client_may_send,
+    a_text_that_is_none,
+    a_close_of_one_byte,
     a_capture,
     a_script_of_16_mib,
     a_server_that_takes_nothing,

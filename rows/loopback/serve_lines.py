@@ -77,7 +77,7 @@ def a_port_in_use():
 
 def an_address_that_is_none():
     for address in NO_ADDRESSES:
-        assert run("serve", address, "1") == (3, b"", b"not listening: no such host\n"), address
+        assert run("serve", address, "1") == (3, b"", b"not listening: no such host\n  HOST:PORT to listen at, up to 65535: localhost:9001\n"), address
 
 
 def an_address_of_another_machine():

@@ -6,6 +6,7 @@ import resource
 import socket
 import threading
 
+from hint_lines import STATUS
 from send_lines import fed
 from server import SECONDS, Tested, free_port, run
 from wire import BAD_REQUEST, RESPONSE
@@ -284,6 +285,15 @@ def a_server_that_refuses():
     assert ended == (1, b"FAIL Head Status: close=1000\n1 scripts: 0 pass, 0 loose, 1 fail\n", b""), ended
 
 
+def a_server_that_refuses_all():
+    """What all have in common is said once, behind the tenth line."""
+    for words, count, told in (("--steps=1", 28, STATUS), ("--max-fail=10", 10, STATUS), ("--max-fail=9", 9, b"")):
+        status, output, faults = run("sweep", words, Refuses().address)
+        lines = output.splitlines()
+        assert (status, len(lines), faults) == (1, count + 1, told), (status, lines, faults)
+        assert lines[-1] == b"%d scripts: 0 pass, 0 loose, %d fail" % (count, count), lines[-1]
+
+
 def the_first_forty_scripts():
     """By their lengths, and then by the alphabet: worked by hand."""
     status, output, faults = run("sweep", "--progress", "own")
@@ -326,7 +336,7 @@ def told_as_it_runs():
 
 def no_server():
     address = f"127.0.0.1:{free_port()}"
-    assert run("sweep", address) == (3, b"", b"no connection: refused\n")
+    assert run("sweep", address) == (3, b"", f"no connection: refused\n  tried {address}\n".encode())
 
 
 TESTS = [
@@ -339,6 +349,7 @@ TESTS = [
     a_line_that_is_played,
     a_line_that_is_played_by_the_protocol,
     a_server_that_refuses,
+    a_server_that_refuses_all,
     the_first_forty_scripts,
     in_two_seconds,
     told_as_it_runs,

@@ -449,16 +449,33 @@ def output_that_nobody_reads():
 
 
 def words_that_are_no_addresses():
-    for listen, target in (("x", "a:1"), ("a:1", "x"), (":1", "a:1"), ("a:1", "a:65536"), ("a b:1", "a:1")):
-        assert run("tap", listen, target, "1") == (2, b"", b"bad address\n"), (listen, target)
-    urls = ("ws://", "ws://:1", "ws://a:65536", "ws://u@a:1", "ws://a:1/#f", "ws://a b:1", "wss://a:1", "http://a:1/")
-    for url in urls:
-        assert run("tap", "127.0.0.1:0", url, "1") == (2, b"", b"bad address\n"), url
-    assert run("tap", "ws://127.0.0.1:x", "a:1", "1") == (2, b"", b"bad address\n")
+    no_listen = "LISTEN is an address to listen at: HOST:PORT"
+    no_target = "TARGET is HOST:PORT or ws://HOST:PORT/PATH"
+    bad_port = "a port is at most 65535, and 80 without one: ws://HOST:PORT/PATH"
+    for listen, target, advice in (
+        ("x", "a:1", no_listen),
+        (":1", "a:1", no_listen),
+        ("a b:1", "a:1", no_listen),
+        ("a:65536", "wss://a:1", no_listen),
+        ("ws://127.0.0.1:x", "a:1", no_listen),
+        ("a:1", "x", no_target),
+        ("a:1", "a:65536", no_target),
+        ("a:1", "ws://", no_target),
+        ("a:1", "ws://:1", no_target),
+        ("a:1", "ws://a:", bad_port),
+        ("a:1", "ws://a:65536", bad_port),
+        ("a:1", "ws://u@a:1", "no user before the host: ws://HOST:PORT/PATH"),
+        ("a:1", "ws://a:1/#f", no_target),
+        ("a:1", "ws://a b:1", no_target),
+        ("a:1", "wss://a:1", "wss:// is not supported; run socat or stunnel and give its address as TARGET"),
+        ("a:1", "http://a:1/", no_target),
+    ):
+        told = (2, b"", f"bad address\n  {advice}\n".encode())
+        assert run("tap", listen, target, "1") == told, (listen, target)
     with socket.create_server(("127.0.0.1", 0)) as taken:
         port = taken.getsockname()[1]
         assert run("tap", f"127.0.0.1:{port}", "a:1", "1") == (3, b"", b"not listening: address in use\n")
-    assert run("tap", "no.such.host.invalid:1", "a:1", "1") == (3, b"", b"not listening: no such host\n")
+    assert run("tap", "no.such.host.invalid:1", "a:1", "1") == (3, b"", b"not listening: no such host\n  HOST:PORT to listen at, up to 65535: localhost:9001\n")
     assert run("tap", "127.0.0.1:0", "a:1")[0] == 2
 
 

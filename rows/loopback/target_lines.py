@@ -4,7 +4,7 @@ import socket
 import threading
 
 from server import SECONDS, Client, run, start
-from wire import CLOSE_BACK, EMPTY_BACK, EMPTY_TEXT, MASKED_CLOSE, RESPONSE
+from wire import CLOSE_BACK, EMPTY_BACK, EMPTY_TEXT, MASKED_CLOSE, RESPONSE, with_line
 
 ONE_PASS = b"1.1.1 PASS\n1 pass, 0 loose, 0 fail\n"
 KEY_LINES = (
@@ -12,6 +12,7 @@ KEY_LINES = (
     b"Sec-WebSocket-Key: dGhlIHNhbXBsZSBub25jZQ==\r\nSec-WebSocket-Version: 13\r\n"
 )
 FORBIDDEN = b"HTTP/1.1 403 Forbidden\r\nContent-Length: 9\r\n\r\nforbidden"
+STATUS_RULE = b"  rule A server accepts a connection with the status 101 (RFC 6455 section 4.1)\n"
 
 
 def asked(path, host, *lines):
@@ -97,8 +98,8 @@ def what_a_server_wants():
             client.send(CLOSE_BACK)
         client.close()
         output, faults = process.communicate(timeout=SECONDS)
-        refused = f"1.1.1 FAIL Head Status\n  status {status}\n0 pass, 0 loose, 1 fail\n"
-        assert (output, faults) == (ONE_PASS if status is None else refused.encode(), b""), (path, output, faults)
+        refused = b"1.1.1 FAIL Head Status\n  status %d\n" % (status or 0) + STATUS_RULE + b"0 pass, 0 loose, 1 fail\n"
+        assert (output, faults) == (ONE_PASS if status is None else refused, b""), (path, output, faults)
         assert process.returncode == int(status is not None), path
 
 
@@ -139,19 +140,59 @@ def a_status_that_is_told():
     target = f"ws://127.0.0.1:{server.port}/echo"
     line, total = b"1.1.1 FAIL Head Status\n", b"0 pass, 0 loose, 1 fail\n"
     told = server.refuses(FORBIDDEN, "test", "--explain", target, "1.1.1")
-    assert told == (1, line + b"  status 403\n" + total, b""), told
+    assert told == (1, line + b"  status 403\n" + STATUS_RULE + total, b""), told
     assert server.refuses(FORBIDDEN, "test", target, "1.1.1") == (1, line + total, b"")
     assert server.refuses(FORBIDDEN, "test", "--explain", "--capture", target, "1.1.1") == (1, line, b"")
     low = FORBIDDEN.replace(b"403 Forbidden", b"007 Low")
     told = server.refuses(low, "test", "--explain", target, "1.1.1")
-    assert told == (1, line + b"  status 007\n" + total, b""), told
+    assert told == (1, line + b"  status 007\n" + STATUS_RULE + total, b""), told
 
 
-def another_refusal_has_no_status():
+ACCEPT = (
+    "A response has exactly one Sec-WebSocket-Accept, the value for the key of the request "
+    "(RFC 6455 sections 4.1 and 4.2.2)"
+)
+REFUSALS = (
+    ("Head", "A server answers in HTTP (RFC 6455 section 4.2.2)", b"SSH-2.0-OpenSSH_9.6\r\n"),
+    ("TooLarge", "A head has at most 8192 bytes and 64 headers (ours)", with_line(RESPONSE, b"X: " + 8192 * b"a")),
+    (
+        "Version",
+        "A head is one of HTTP/1.1 (RFC 6455 sections 4.2.1 and 4.2.2)",
+        RESPONSE.replace(b"HTTP/1.1", b"HTTP/1.0"),
+    ),
+    (
+        "Upgrade",
+        "A head has an Upgrade that names websocket (RFC 6455 sections 4.1 and 4.2.1)",
+        RESPONSE.replace(b": websocket", b": h2c"),
+    ),
+    (
+        "Connection",
+        "A head has a Connection that names Upgrade (RFC 6455 sections 4.1 and 4.2.1)",
+        RESPONSE.replace(b"Connection: Upgrade", b"Connection: close"),
+    ),
+    ("Accept", ACCEPT, RESPONSE.replace(b"s3pPLMB", b"s3pPLMC")),
+    (
+        "Extension",
+        "A response names no extension that was not offered, and none was (RFC 6455 section 4.1)",
+        with_line(RESPONSE, b"Sec-WebSocket-Extensions: x"),
+    ),
+    (
+        "Protocol",
+        "A response names at most one subprotocol, and one that was offered (RFC 6455 section 4.1)",
+        with_line(RESPONSE, b"Sec-WebSocket-Protocol: chat"),
+    ),
+)
+
+
+def another_refusal_has_its_rule_and_no_status():
     server = Asked()
-    other = RESPONSE.replace(b"s3pPLMB", b"s3pPLMC")
-    told = server.refuses(other, "test", "--explain", f"127.0.0.1:{server.port}", "1.1.1")
-    assert told == (1, b"1.1.1 FAIL Head Accept\n0 pass, 0 loose, 1 fail\n", b""), told
+    address = f"127.0.0.1:{server.port}"
+    for name, rule, answer in REFUSALS:
+        line, total = f"1.1.1 FAIL Head {name}\n".encode(), b"0 pass, 0 loose, 1 fail\n"
+        below = f"  rule {rule}\n".encode()
+        told = server.refuses(answer, "test", "--explain", address, "1.1.1")
+        assert told == (1, line + below + total, b""), told
+        assert server.refuses(answer, "test", address, "1.1.1") == (1, line + total, b"")
 
 
 def a_script_at_a_url():
@@ -170,7 +211,7 @@ def a_script_at_a_url():
     told = run("send", "--header", "X: y", f"ws://127.0.0.1:{server.port}/echo")
     thread.join()
     assert got == [asked(b"/echo", host, b"X: y")], got
-    assert told == (1, b"", b"FAIL Head Status\n"), told
+    assert told == (1, b"", b"FAIL Head Status\n  status 403\n" + STATUS_RULE), told
 
 
 TESTS = [
@@ -181,6 +222,6 @@ TESTS = [
     the_port_80_is_not_told,
     another_port_is_told_where_it_is_not_connected_to,
     a_status_that_is_told,
-    another_refusal_has_no_status,
+    another_refusal_has_its_rule_and_no_status,
     a_script_at_a_url,
 ]

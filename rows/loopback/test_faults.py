@@ -9,7 +9,7 @@ from test_lines import passes
 from wire import CLOSE_BACK, EMPTY_BACK, EMPTY_TEXT, FAILED_1002, MASKED_CLOSE, RESPONSE, request_to
 
 CLOSED = b"no connection: closed before the answer\n"
-SILENT = b"no connection: timed out\n"
+SILENT = b"no connection: timed out\n  connected, but no complete answer to the request in time\n"
 
 STILL = b"still waiting: 1.1.1 (--timeout SECONDS ends a wait)\n"
 
@@ -361,22 +361,30 @@ def sends_without_an_end():
 
 def floods_a_case():
     """One that sends as much as it can, messages or pings, costs little more memory than the bytes that are read of it.
-    It is looked at while the next case waits, with the last of these bytes."""
-    messages, pings = b"\x82\x7e\xff\xff" + bytes(65535), (b"\x89\x7d" + bytes(125)) * 500
+    A run whose FAIL is certain ends at the first pause in what is sent, which comes on a machine that is busy: one of
+    ten runs has to read all that the budget allows. Each call sends more than that, so that the system sends on."""
+    messages, pings = (b"\x82\x7e\xff\xff" + bytes(65535)) * 300, (b"\x89\x7d" + bytes(125)) * 150_000
     for frames in (messages, pings):
-        server = Tested("--budget=16777216", "1.1.1", "1.1.1")
-        client = server.next()
-        client.send(RESPONSE)
-        try:
-            while True:
-                client.send(frames)
-        except OSError:
-            client.close()
-        assert server.line() == "1.1.1 FAIL Messages"
-        most = max_resident(server.process.pid)
-        assert 16_777_216 < most < 80_000_000, most
-        passes(server)
-        server.ends("1.1.1 PASS\n1 pass, 0 loose, 1 fail\n", status=1)
+        assert any(resident_of_a_flood(frames) > 16_777_216 for _ in range(10))
+
+
+def resident_of_a_flood(frames):
+    """How much memory a run holds at most that is sent these without end. It is looked at while the next case waits,
+    with the last of these bytes."""
+    server = Tested("--budget=16777216", "1.1.1", "1.1.1")
+    client = server.next()
+    client.send(RESPONSE)
+    try:
+        while True:
+            client.send(frames)
+    except OSError:
+        client.close()
+    assert server.line() == "1.1.1 FAIL Messages"
+    most = max_resident(server.process.pid)
+    assert most < 80_000_000, most
+    passes(server)
+    server.ends("1.1.1 PASS\n1 pass, 0 loose, 1 fail\n", status=1)
+    return most
 
 
 def each_piece_goes_out_at_once():
@@ -404,7 +412,8 @@ def time_of_the_pieces():
 def takes_no_connection():
     """A connection that is not made in time: the queue of the listener is full."""
     server = Tested("--timeout=1", "1.1.1", backlog=0, waiting=4)
-    server.ends("1.1.1 no connection\n0 pass, 0 loose, 1 fail\n", status=1, faults=SILENT)
+    late = b"no connection: timed out\n"
+    server.ends("1.1.1 no connection\n0 pass, 0 loose, 1 fail\n", status=1, faults=late)
 
 
 def two_in_a_row():

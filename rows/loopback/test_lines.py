@@ -132,9 +132,11 @@ def no_listener():
     with socket.socket() as closed:
         closed.bind(("127.0.0.1", 0))
         address = f"127.0.0.1:{closed.getsockname()[1]}"
-        told = (3, b"1.1.1 no connection\n", b"no connection: refused\n")
-        assert run("test", address, "1.1.1", "1.1.2") == told
-        assert run("test", "--capture", address, "1.1.1") == told
+        line, refused = b"1.1.1 no connection\n", b"no connection: refused\n"
+        tried = f"  tried {address}\n".encode()
+        assert run("test", address, "1.1.1", "1.1.2") == (3, line, refused + tried)
+        assert run("test", "--connect", address, "ws://localhost/chat", "1.1.1") == (3, line, refused + tried)
+        assert run("test", "--capture", address, "1.1.1") == (3, line, refused)
 
 
 def no_address_to_test():

@@ -7,12 +7,12 @@ import subprocess
 import threading
 import time
 
-from send_lines import SCRIPT, SENT_HELLO, TURN_1, Sent
+from send_lines import NO_ECHO, SCRIPT, SENT_HELLO, TURN_1, Sent
 from server import SECONDS, Tested
 from wire import EMPTY_TEXT, HELLO, HELLO_BACK, RESPONSE, request_to
 
 TWO_FAIL = "1.1.1 FAIL Messages\n0 pass, 0 loose, 1 fail\n"
-SILENT = b"no connection: timed out\n"
+SILENT = b"no connection: timed out\n  connected, but no complete answer to the request in time\n"
 PING = b"\x89\x00"
 SENT_16_MIB = b"binary 00*16777216\n"
 
@@ -82,7 +82,8 @@ def a_wait_is_not_that_of_a_read():
     with Clock(1.8, 3):
         time.sleep(1.5)
         client.send(PING)
-        server.ends(f"{TURN_1}\n{SENT_HELLO}\n< 0 ping fin=1 rsv=0 key=- len=0 short -\nend tester\n")
+        lines = f"{TURN_1}\n{SENT_HELLO}\n< 0 ping fin=1 rsv=0 key=- len=0 short -\nend tester\n"
+        server.ends(lines, faults=NO_ECHO)
 
 
 def pongs_that_no_open_ping_asked_for():
@@ -161,7 +162,7 @@ def a_stop_in_a_wait():
             time.sleep(0.4)
             stop(server)
             server.process.send_signal(signal.SIGCONT)
-        server.ends(f"{TURN_1}\n{SENT_HELLO}\nend tester\n")
+        server.ends(f"{TURN_1}\n{SENT_HELLO}\nend tester\n", faults=NO_ECHO)
     client.close()
 
 

@@ -9,10 +9,10 @@ use std::io::{ErrorKind, Read, Write};
 use std::net::{Net, OpenStream, Shutdown, SocketAddr, ToSocketAddrs};
 use std::time::Duration;
 use ws_loops::{
-    Listener, NonBlocking, Poller, Readiness, TryAccept, TryRead, TryWrite, WaitFailed,
+    Listener, Mark, NonBlocking, Poller, Readiness, TryAccept, TryRead, TryWrite, WaitFailed, Wake,
 };
 use ws_networks::{Network, Progress};
-use wst_network::{ConnectMiss, Connector, EndingStream, NetworkFault, StreamEnd};
+use wst_network::{ConnectMiss, Connector, EndingStream, StreamEnd};
 
 /// How often a poller waits at most.
 const WAITS: u64 = 1_000_000_000;
@@ -166,7 +166,7 @@ impl<'a> Network for PolledNetwork<'a> {
         }
     }
 
-    fn bind(&mut self, _address: SocketAddr, _at: usize) -> Result<NoListener<'a>, ConnectMiss> {
+    fn bind(&mut self, _address: SocketAddr) -> Result<NoListener<'a>, ConnectMiss> {
         Err(ConnectMiss::NotTaken(ErrorKind::AddrNotAvailable))
     }
 
@@ -222,8 +222,6 @@ impl EndingStream for PolledStream<'_> {
 impl NonBlocking for PolledStream<'_> {
     ghost use Rattle.std.specs.Prelude.{⊤};
 
-    type Fault = NetworkFault;
-
     ghost did = { λ old new deeds. ⊤ };
 
     fn try_read(&mut self, room: &mut [u8]) -> TryRead {
@@ -272,10 +270,6 @@ impl NonBlocking for PolledStream<'_> {
     fn end_direction(&mut self) {
         let _ = self.stream.shutdown(Shutdown::Write);
     }
-
-    fn report(&mut self, _lines: &[u8]) -> Result<(), NetworkFault> {
-        Err(NetworkFault::NoOutput)
-    }
 }
 
 /// Waits for such a connection, by a clock of which only waits that are in vain take time.
@@ -311,7 +305,7 @@ impl Poller for MemoryPoller<'_> {
         self.time
     }
 
-    fn wait(&mut self, ready: &mut [Readiness], until: Option<u64>) -> Result<(), WaitFailed> {
+    fn wait(&mut self, found: &mut [Wake], until: Option<u64>) -> Result<usize, WaitFailed> {
         if self.left == 0 {
             return Err(WaitFailed);
         }
@@ -319,20 +313,24 @@ impl Poller for MemoryPoller<'_> {
         self.keep(until);
         if let Some(until) = until {
             if until <= self.clock {
-                return Ok(());
+                return Ok(0);
             }
             if self.book.stage.is_in_vain() {
                 self.clock = until;
-                return Ok(());
+                return Ok(0);
             }
         }
         self.book.stage.come();
-        for mark in ready.iter_mut() {
-            *mark = Readiness {
+        if found.is_empty() {
+            return Ok(0);
+        }
+        found[0] = Wake {
+            mark: Mark::Place(0),
+            ready: Readiness {
                 read: true,
                 write: true,
-            };
-        }
-        Ok(())
+            },
+        };
+        Ok(1)
     }
 }

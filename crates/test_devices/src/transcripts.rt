@@ -81,6 +81,8 @@ fn lines_of(alloc: Global, transcript: &Transcript) -> Vec<u8> {
         let showing = Showing {
             tested: Role::Server,
             style: DataStyle::Hex,
+            sent_fault: None,
+            got_fault: None,
         };
         let _written = show_transcript(alloc, showing, transcript, &mut writer);
     }

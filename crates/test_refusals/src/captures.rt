@@ -73,13 +73,18 @@ pub fn play(alloc: Global, capture: &Capture, tally: &mut Tally) -> Result<(), N
 /// One reading, made again where memory runs out.
 fn read_again(alloc: Global, text: &[u8], tally: &mut Tally) -> Result<Transcript, CaptureFault> {
     tally.call();
-    match read_capture(alloc, text) {
+    match read(alloc, text) {
         Err(CaptureFault::NoMemory) => {
             tally.refuse("read_capture");
-            read_capture(alloc, text)
+            read(alloc, text)
         }
         answer => answer,
     }
+}
+
+// Each call by a function that says nothing of it: what is proved of the two calls is small then.
+fn read(alloc: Global, text: &[u8]) -> Result<Transcript, CaptureFault> {
+    read_capture(alloc, text)
 }
 
 /// Reads a capture as one in either format: without a key, and with this transcript.
@@ -104,13 +109,17 @@ fn read_either_again(
     tally: &mut Tally,
 ) -> Result<ws_suite::Capture, CaptureFault> {
     tally.call();
-    match read_capture2(alloc, text) {
+    match read2(alloc, text) {
         Err(CaptureFault::NoMemory) => {
             tally.refuse("read_capture2");
-            read_capture2(alloc, text)
+            read2(alloc, text)
         }
         answer => answer,
     }
+}
+
+fn read2(alloc: Global, text: &[u8]) -> Result<ws_suite::Capture, CaptureFault> {
+    read_capture2(alloc, text)
 }
 
 /// One verdict, asked for again where memory runs out.
@@ -120,13 +129,17 @@ pub fn judge_again(
     tally: &mut Tally,
 ) -> Result<Verdict, NoMemory> {
     tally.call();
-    match judge(alloc, transcript) {
+    match verdict_on(alloc, transcript) {
         Ok(verdict) => Ok(verdict),
         Err(NoMemory) => {
             tally.refuse("judge");
-            judge(alloc, transcript)
+            verdict_on(alloc, transcript)
         }
     }
+}
+
+fn verdict_on(alloc: Global, transcript: &Transcript) -> Result<Verdict, NoMemory> {
+    judge(alloc, transcript)
 }
 
 /// One writing, made again where memory runs out.
@@ -136,11 +149,15 @@ fn write_again(
     tally: &mut Tally,
 ) -> Result<Vec<u8>, NoMemory> {
     tally.call();
-    match write_capture(alloc, transcript) {
+    match write(alloc, transcript) {
         Ok(text) => Ok(text),
         Err(NoMemory) => {
             tally.refuse("write_capture");
-            write_capture(alloc, transcript)
+            write(alloc, transcript)
         }
     }
+}
+
+fn write(alloc: Global, transcript: &Transcript) -> Result<Vec<u8>, NoMemory> {
+    write_capture(alloc, transcript)
 }

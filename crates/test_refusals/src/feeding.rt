@@ -30,13 +30,17 @@ fn feed_again(
     tally: &mut Tally,
 ) -> Result<Run, NoMemory> {
     tally.call();
-    match feed_all(alloc, Role::Server, limits, pieces, NO_KEY) {
+    match feed_once(alloc, limits, pieces) {
         Ok(run) => Ok(run),
         Err(NoMemory) => {
             tally.refuse("feed_all");
-            feed_all(alloc, Role::Server, limits, pieces, NO_KEY)
+            feed_once(alloc, limits, pieces)
         }
     }
+}
+
+fn feed_once(alloc: Global, limits: Limits, pieces: &[Vec<u8>]) -> Result<Run, NoMemory> {
+    feed_all(alloc, Role::Server, limits, pieces, NO_KEY)
 }
 
 /// Compares a run with what a server makes of the stream.

@@ -98,17 +98,22 @@ pub fn play(alloc: Global, script: &Script, tally: &mut Tally) -> Result<(), NoM
     match read_moves(alloc, script.moves.as_bytes()) {
         Ok(moves) => {
             let report = run_again(alloc, client, server, moves.as_slice(), tally)?;
-            let mut writer = Watched::new(ByteWriter::new(alloc, Failing::Never));
-            let Ok(()) = write_report(alloc, &report, &mut writer) else {
-                return Err(NoMemory);
-            };
-            let lines = writer.into_inner().taken;
+            let lines = lines_of(alloc, &report)?;
             tally.compare(lines.as_slice() == script.report.as_bytes());
         }
         Err(TextFault::NoMemory) => return Err(NoMemory),
         Err(TextFault::Damaged(_)) => tally.compare(false),
     }
     Ok(())
+}
+
+/// The lines of a report.
+fn lines_of(alloc: Global, report: &Report) -> Result<Vec<u8>, NoMemory> {
+    let mut writer = Watched::new(ByteWriter::new(alloc, Failing::Never));
+    match write_report(alloc, report, &mut writer) {
+        Ok(()) => Ok(writer.into_inner().taken),
+        Err(_) => Err(NoMemory),
+    }
 }
 
 /// One run, made again where memory runs out.
@@ -120,11 +125,15 @@ fn run_again(
     tally: &mut Tally,
 ) -> Result<Report, NoMemory> {
     tally.call();
-    match run_pair(alloc, client, server, moves) {
+    match run(alloc, client, server, moves) {
         Ok(report) => Ok(report),
         Err(NoMemory) => {
             tally.refuse("run_pair");
-            run_pair(alloc, client, server, moves)
+            run(alloc, client, server, moves)
         }
     }
+}
+
+fn run(alloc: Global, client: Limits, server: Limits, moves: &[Move]) -> Result<Report, NoMemory> {
+    run_pair(alloc, client, server, moves)
 }

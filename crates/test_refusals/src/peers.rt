@@ -55,13 +55,18 @@ fn run_echo_again(alloc: Global, case: &Case, tally: &mut Tally) -> Result<Trans
     requires { CanBeRun case.now }
 {
     tally.call();
-    let mut first = EchoPeer::new(alloc);
-    match run_case(alloc, case, &mut first, KEY) {
+    match run_echo(alloc, case) {
         Ok(transcript) => return Ok(transcript),
         Err(NoMemory) => tally.refuse("run_case over an echo"),
     }
-    let mut second = EchoPeer::new(alloc);
-    run_case(alloc, case, &mut second, KEY)
+    run_echo(alloc, case)
+}
+
+fn run_echo(alloc: Global, case: &Case) -> Result<Transcript, NoMemory>
+    requires { CanBeRun case.now }
+{
+    let mut peer = EchoPeer::new(alloc);
+    run_case(alloc, case, &mut peer, KEY)
 }
 
 /// One run over a new peer of `tungstenite`.
@@ -74,10 +79,16 @@ fn run_tungstenite_again(
 {
     tally.call();
     let mut first = TungPeer::new(alloc)?;
-    match run_case(alloc, case, &mut first, KEY) {
+    match run_tungstenite(alloc, case, &mut first) {
         Ok(transcript) => return Ok(transcript),
         Err(NoMemory) => tally.refuse("run_case over tungstenite"),
     }
     let mut second = TungPeer::new(alloc)?;
-    run_case(alloc, case, &mut second, KEY)
+    run_tungstenite(alloc, case, &mut second)
+}
+
+fn run_tungstenite(alloc: Global, case: &Case, peer: &mut TungPeer) -> Result<Transcript, NoMemory>
+    requires { CanBeRun case.now }
+{
+    run_case(alloc, case, peer, KEY)
 }

@@ -20,6 +20,75 @@ const LONG: usize = 50_000;
 /// The payload bytes of a message that is lent, more than a room keeps.
 const LARGE: usize = 200_000;
 
+/// What happens to a session that lends, and to the rooms.
+#[derive(Clone, Copy)]
+enum Step {
+    /// It takes these bytes, and lends through the one room.
+    Lend(&'static [u8]),
+    /// The same through the other room.
+    LendBeside(&'static [u8]),
+    /// The rooms are given back.
+    Forget,
+    Mark,
+}
+
+/// A message whose first fragment is empty comes through a room that served another, and then one whose fragments come
+/// through two such rooms.
+const FRAGMENTS: [Step; 12] = [
+    Step::Mark,
+    Step::Lend(b"\x81\x05hello"),
+    Step::Lend(b"\x01\x00"),
+    Step::Lend(b"\x80\x05hello"),
+    Step::Forget,
+    Step::Mark,
+    Step::Lend(b"\x81\x05hello"),
+    Step::LendBeside(b"\x81\x05hello"),
+    Step::Lend(b"\x01\x05hello"),
+    Step::LendBeside(b"\x80\x05hello"),
+    Step::Forget,
+    Step::Mark,
+];
+
+/// A session that lends, what it put, and two rooms.
+#[derive(Drop)]
+struct Lender {
+    session: Session,
+    out: Vec<u8>,
+    room: PayloadRoom,
+    other: PayloadRoom,
+}
+
+impl Lender {
+    /// A client whose messages have at most so many bytes.
+    fn new(alloc: Global, most: u32) -> Result<Lender, NoMemory> {
+        let Some(limits) = Limits::new(most) else {
+            return Err(NoMemory);
+        };
+        Ok(Lender {
+            session: Session::new(alloc, Role::Client, limits),
+            out: Vec::new(alloc),
+            room: PayloadRoom::new(alloc),
+            other: PayloadRoom::new(alloc),
+        })
+    }
+
+    /// Makes a step.
+    fn make(&mut self, alloc: Global, step: &Step) -> Result<(), NoMemory> {
+        match step {
+            Step::Lend(piece) => lend(&mut self.session, piece, &mut self.out, &mut self.room),
+            Step::LendBeside(piece) => {
+                lend(&mut self.session, piece, &mut self.out, &mut self.other)
+            }
+            Step::Forget => {
+                self.room.forget();
+                self.other.forget();
+                Ok(())
+            }
+            Step::Mark => mark(alloc),
+        }
+    }
+}
+
 /// A new session puts a frame of each size, and another one takes a text that isn't over, a fault, and bytes behind it.
 pub fn play(alloc: Global) -> Result<(), NoMemory> {
     let Some(limits) = Limits::new(LIMIT) else {
@@ -29,16 +98,21 @@ pub fn play(alloc: Global) -> Result<(), NoMemory> {
     let mut session = Session::new(alloc, Role::Client, limits);
     mark(alloc)?;
     for size in SIZES {
-        let payload = filled(alloc, size)?;
-        let mut out = Vec::new(alloc);
-        mark(alloc)?;
-        let sent = session.begin(Kind::Binary, payload.as_slice(), true, NO_KEY, &mut out);
-        mark(alloc)?;
-        sent_or_not(sent)?;
+        put_frame(alloc, &mut session, size)?;
     }
     take_to_the_end(alloc, limits)?;
     lend_large_and_small(alloc)?;
     lend_fragments(alloc)
+}
+
+/// A session puts a frame of so many bytes.
+fn put_frame(alloc: Global, session: &mut Session, size: usize) -> Result<(), NoMemory> {
+    let payload = filled(alloc, size)?;
+    let mut out = Vec::new(alloc);
+    mark(alloc)?;
+    let sent = begin(session, payload.as_slice(), &mut out);
+    mark(alloc)?;
+    sent_or_not(sent)
 }
 
 /// A session takes a frame that leaves its message open, and then bytes that are none of a text.
@@ -50,61 +124,67 @@ fn take_to_the_end(alloc: Global, limits: Limits) -> Result<(), NoMemory> {
     out.reserve(100)?;
     mark(alloc)?;
     let mut session = Session::new(alloc, Role::Client, limits);
-    let _ = session.take(frame.as_slice(), NO_KEY, &mut out)?;
-    mark(alloc)?;
-    let _ = session.take(b"\x80\x01\xff", NO_KEY, &mut out)?;
-    mark(alloc)?;
-    let _ = session.take(frame.as_slice(), NO_KEY, &mut out)?;
-    mark(alloc)?;
-    Ok(())
+    take_and_mark(alloc, &mut session, frame.as_slice(), &mut out)?;
+    take_and_mark(alloc, &mut session, b"\x80\x01\xff", &mut out)?;
+    take_and_mark(alloc, &mut session, frame.as_slice(), &mut out)
 }
 
 /// A session lends a large message, and then ten small ones; then the room is given back.
 fn lend_large_and_small(alloc: Global) -> Result<(), NoMemory> {
-    let Some(limits) = Limits::new(MAX_MESSAGE) else {
-        return Err(NoMemory);
-    };
     let mut large = Vec::from_slice(alloc, b"\x82\x7f\0\0\0\0\0\x03\x0d\x40")?;
     let payload = filled(alloc, LARGE)?;
     large.extend_from_slice(payload.as_slice())?;
-    let mut out = Vec::new(alloc);
-    let mut room = PayloadRoom::new(alloc);
-    let mut session = Session::new(alloc, Role::Client, limits);
+    let mut lender = Lender::new(alloc, MAX_MESSAGE)?;
     mark(alloc)?;
-    let _ = session.take_into(large.as_slice(), NO_KEY, &mut out, &mut room)?;
+    lend(
+        &mut lender.session,
+        large.as_slice(),
+        &mut lender.out,
+        &mut lender.room,
+    )?;
     mark(alloc)?;
     for _ in 0..10 {
-        let _ = session.take_into(b"\x81\x05hello", NO_KEY, &mut out, &mut room)?;
+        lender.make(alloc, &Step::Lend(b"\x81\x05hello"))?;
     }
-    mark(alloc)?;
-    room.forget();
-    mark(alloc)?;
+    for step in [Step::Mark, Step::Forget, Step::Mark] {
+        lender.make(alloc, &step)?;
+    }
     Ok(())
 }
 
-/// A session lends a message whose first fragment is empty through a room that served another, and then one whose
-/// fragments come through two such rooms; each time the rooms are given back.
+/// A session lends messages in fragments; each time the rooms are given back.
 fn lend_fragments(alloc: Global) -> Result<(), NoMemory> {
-    let Some(limits) = Limits::new(LIMIT) else {
-        return Err(NoMemory);
-    };
-    let mut out = Vec::new(alloc);
-    let mut room = PayloadRoom::new(alloc);
-    let mut other = PayloadRoom::new(alloc);
-    let mut session = Session::new(alloc, Role::Client, limits);
-    mark(alloc)?;
-    let _ = session.take_into(b"\x81\x05hello", NO_KEY, &mut out, &mut room)?;
-    let _ = session.take_into(b"\x01\x00", NO_KEY, &mut out, &mut room)?;
-    let _ = session.take_into(b"\x80\x05hello", NO_KEY, &mut out, &mut room)?;
-    room.forget();
-    mark(alloc)?;
-    let _ = session.take_into(b"\x81\x05hello", NO_KEY, &mut out, &mut room)?;
-    let _ = session.take_into(b"\x81\x05hello", NO_KEY, &mut out, &mut other)?;
-    let _ = session.take_into(b"\x01\x05hello", NO_KEY, &mut out, &mut room)?;
-    let _ = session.take_into(b"\x80\x05hello", NO_KEY, &mut out, &mut other)?;
-    room.forget();
-    other.forget();
-    mark(alloc)?;
+    let mut lender = Lender::new(alloc, LIMIT)?;
+    for step in FRAGMENTS {
+        lender.make(alloc, &step)?;
+    }
+    Ok(())
+}
+
+/// One send.
+fn begin(session: &mut Session, payload: &[u8], out: &mut Vec<u8>) -> Result<(), SendFault> {
+    session.begin(Kind::Binary, payload, true, NO_KEY, out)
+}
+
+/// One call that takes bytes.
+fn take_and_mark(
+    alloc: Global,
+    session: &mut Session,
+    piece: &[u8],
+    out: &mut Vec<u8>,
+) -> Result<(), NoMemory> {
+    let _ = session.take(piece, NO_KEY, out)?;
+    mark(alloc)
+}
+
+/// One call that takes bytes, and lends what it read in a room.
+fn lend(
+    session: &mut Session,
+    piece: &[u8],
+    out: &mut Vec<u8>,
+    room: &mut PayloadRoom,
+) -> Result<(), NoMemory> {
+    let _ = session.take_into(piece, NO_KEY, out, room)?;
     Ok(())
 }
 

@@ -52,13 +52,19 @@ fn read_again(alloc: Global, tally: &mut Tally) -> Result<Case, TextFault>
     ensures { IfOk result (λ case. CanBeRun case) }
 {
     tally.call();
-    match read_script(alloc, TEXT.as_bytes()) {
+    match read(alloc) {
         Err(TextFault::NoMemory) => {
             tally.refuse("read_script");
-            read_script(alloc, TEXT.as_bytes())
+            read(alloc)
         }
         answer => answer,
     }
+}
+
+fn read(alloc: Global) -> Result<Case, TextFault>
+    ensures { IfOk result (λ case. CanBeRun case) }
+{
+    read_script(alloc, TEXT.as_bytes())
 }
 
 /// One writing, made again where memory runs out.
@@ -66,11 +72,17 @@ fn write_again(alloc: Global, case: &Case, tally: &mut Tally) -> Result<Vec<u8>,
     requires { CanBeRun case.now }
 {
     tally.call();
-    match write_script(alloc, case) {
+    match write(alloc, case) {
         Ok(text) => Ok(text),
         Err(NoMemory) => {
             tally.refuse("write_script");
-            write_script(alloc, case)
+            write(alloc, case)
         }
     }
+}
+
+fn write(alloc: Global, case: &Case) -> Result<Vec<u8>, NoMemory>
+    requires { CanBeRun case.now }
+{
+    write_script(alloc, case)
 }

@@ -1,6 +1,6 @@
 //! The names of the cases, one case, and what is sent for it.
 
-ghost use Rattle.std.specs.Prelude.{IfOk};
+ghost use Rattle.std.specs.Prelude.{IfOk, IfSome};
 ghost use Rattle.ws_scripts.specs.Scripts.{CanBeRun};
 
 use crate::streams;
@@ -46,13 +46,17 @@ fn is_turn(pieces: &CutTurn, place: usize) -> bool {
 /// The names, asked for again where memory runs out.
 fn ids_again(alloc: Global, tally: &mut Tally) -> Result<Sequence<String>, NoMemory> {
     tally.call();
-    match ids(alloc) {
+    match names_of(alloc) {
         Ok(names) => Ok(names),
         Err(NoMemory) => {
             tally.refuse("ids");
-            ids(alloc)
+            names_of(alloc)
         }
     }
+}
+
+fn names_of(alloc: Global) -> Result<Sequence<String>, NoMemory> {
+    ids(alloc)
 }
 
 /// The case, asked for again where memory runs out. A case that is not there is told as want of memory.
@@ -60,15 +64,22 @@ pub fn script(alloc: Global, tally: &mut Tally) -> Result<Case, NoMemory>
     ensures { IfOk result (λ case. CanBeRun case) }
 {
     tally.call();
-    match case(alloc, NAME) {
+    match made(alloc) {
         Ok(Some(case)) => return Ok(case),
         Ok(None) => return Err(NoMemory),
         Err(NoMemory) => tally.refuse("case"),
     }
-    match case(alloc, NAME)? {
+    match made(alloc)? {
         Some(case) => Ok(case),
         None => Err(NoMemory),
     }
+}
+
+/// The case, where it is there.
+fn made(alloc: Global) -> Result<Option<Case>, NoMemory>
+    ensures { IfOk result (λ made. IfSome made CanBeRun) }
+{
+    case(alloc, NAME)
 }
 
 /// What is sent, asked for again where memory runs out.
@@ -76,11 +87,17 @@ fn turns_again(alloc: Global, case: &Case, tally: &mut Tally) -> Result<Sequence
     requires { CanBeRun case.now }
 {
     tally.call();
-    match turns(alloc, case, KEY) {
+    match sent_for(alloc, case) {
         Ok(turns) => Ok(turns),
         Err(NoMemory) => {
             tally.refuse("turns");
-            turns(alloc, case, KEY)
+            sent_for(alloc, case)
         }
     }
+}
+
+fn sent_for(alloc: Global, case: &Case) -> Result<Sequence<CutTurn>, NoMemory>
+    requires { CanBeRun case.now }
+{
+    turns(alloc, case, KEY)
 }

@@ -144,6 +144,34 @@ struct Played {
     out: Vec<u8>,
 }
 
+// Each call by a function of its own, which says nothing of it: what is proved of one is small then.
+impl Played {
+    fn begin(&mut self, kind: Kind, payload: &[u8], fin: bool) -> Result<Answered, NoMemory> {
+        sent(self.session.begin(kind, payload, fin, KEY, &mut self.out))
+    }
+
+    fn more(&mut self, payload: &[u8], fin: bool) -> Result<Answered, NoMemory> {
+        sent(self.session.more(payload, fin, KEY, &mut self.out))
+    }
+
+    fn ping(&mut self, payload: &[u8]) -> Result<Answered, NoMemory> {
+        sent(self.session.ping(payload, KEY, &mut self.out))
+    }
+
+    fn pong(&mut self, payload: &[u8]) -> Result<Answered, NoMemory> {
+        sent(self.session.pong(payload, KEY, &mut self.out))
+    }
+
+    fn close(&mut self, code: u16) -> Result<Answered, NoMemory> {
+        sent(self.session.close(Some((code, "")), KEY, &mut self.out))
+    }
+
+    fn take(&mut self, piece: &[u8]) -> Result<Answered, NoMemory> {
+        let taken = self.session.take(piece, KEY, &mut self.out)?;
+        Ok(Answered::Took(taken))
+    }
+}
+
 /// Makes the calls of a list at a new client.
 pub fn send(alloc: Global, list: &List, tally: &mut Tally) -> Result<(), NoMemory> {
     let Some(limits) = Limits::new(LIMIT) else {
@@ -190,14 +218,13 @@ fn make_again(
 
 /// Makes one call once.
 fn make(played: &mut Played, call: &Call) -> Result<Answered, NoMemory> {
-    let (session, out) = (&mut played.session, &mut played.out);
     match call {
-        Call::Begin(kind, payload, fin) => sent(session.begin(*kind, payload, *fin, KEY, out)),
-        Call::More(payload, fin) => sent(session.more(payload, *fin, KEY, out)),
-        Call::Ping(payload) => sent(session.ping(payload, KEY, out)),
-        Call::Pong(payload) => sent(session.pong(payload, KEY, out)),
-        Call::Close(code) => sent(session.close(Some((*code, "")), KEY, out)),
-        Call::Take(piece) => Ok(Answered::Took(session.take(piece, KEY, out)?)),
+        Call::Begin(kind, payload, fin) => played.begin(*kind, payload, *fin),
+        Call::More(payload, fin) => played.more(payload, *fin),
+        Call::Ping(payload) => played.ping(payload),
+        Call::Pong(payload) => played.pong(payload),
+        Call::Close(code) => played.close(*code),
+        Call::Take(piece) => played.take(piece),
     }
 }
 

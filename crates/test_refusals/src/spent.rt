@@ -7,13 +7,38 @@ use std::alloc::Global;
 use ws_base::NoMemory;
 use ws_peer::{EchoPeer, Peer, TungPeer};
 
+/// A peer that is fed.
+#[derive(Drop)]
+enum Fed {
+    Echo(EchoPeer),
+    Tung(TungPeer),
+}
+
+impl Fed {
+    /// Whether it takes a piece.
+    fn takes(&mut self, piece: &[u8], out: &mut Vec<u8>) -> bool {
+        match self {
+            Fed::Echo(peer) => peer.feed(piece, out).is_ok(),
+            Fed::Tung(peer) => peer.feed(piece, out).is_ok(),
+        }
+    }
+
+    /// Whether it finishes.
+    fn finishes(&mut self, out: &mut Vec<u8>) -> bool {
+        match self {
+            Fed::Echo(peer) => peer.finish(out).is_ok(),
+            Fed::Tung(peer) => peer.finish(out).is_ok(),
+        }
+    }
+}
+
 /// Feeds an echo, and another one where the first is spent.
 pub fn feed_echo(alloc: Global, tally: &mut Tally) -> Result<(), NoMemory> {
-    let mut first = EchoPeer::new(alloc);
+    let mut first = Fed::Echo(EchoPeer::new(alloc));
     if feed(alloc, "feed of an echo", &mut first, tally) {
         return Ok(());
     }
-    let mut second = EchoPeer::new(alloc);
+    let mut second = Fed::Echo(EchoPeer::new(alloc));
     let lasts = feed(alloc, "feed of an echo", &mut second, tally);
     tally.compare(lasts);
     Ok(())
@@ -21,22 +46,22 @@ pub fn feed_echo(alloc: Global, tally: &mut Tally) -> Result<(), NoMemory> {
 
 /// Feeds a peer of `tungstenite`, and another one where the first is spent.
 pub fn feed_tungstenite(alloc: Global, tally: &mut Tally) -> Result<(), NoMemory> {
-    let mut first = TungPeer::new(alloc)?;
+    let mut first = Fed::Tung(TungPeer::new(alloc)?);
     if feed(alloc, "feed of tungstenite", &mut first, tally) {
         return Ok(());
     }
-    let mut second = TungPeer::new(alloc)?;
+    let mut second = Fed::Tung(TungPeer::new(alloc)?);
     let lasts = feed(alloc, "feed of tungstenite", &mut second, tally);
     tally.compare(lasts);
     Ok(())
 }
 
 /// Feeds all pieces, and finishes the peer. `false` where it lacked memory, which is told under the name `call`.
-fn feed<P: Peer>(alloc: Global, call: &'static str, peer: &mut P, tally: &mut Tally) -> bool {
+fn feed(alloc: Global, call: &'static str, peer: &mut Fed, tally: &mut Tally) -> bool {
     let mut out = Vec::new(alloc);
     for piece in FRAGMENTS.pieces {
         let before = out.len();
-        if peer.feed(piece, &mut out).is_err() {
+        if !peer.takes(piece, &mut out) {
             tally.refuse(call);
             tally.compare(keeps(out.as_slice(), before));
             check_spent(peer, piece, &mut out, tally);
@@ -45,16 +70,16 @@ fn feed<P: Peer>(alloc: Global, call: &'static str, peer: &mut P, tally: &mut Ta
     }
     tally.call();
     tally.compare(out.as_slice() == FRAGMENTS.echoed);
-    tally.compare(peer.finish(&mut out).is_ok());
+    tally.compare(peer.finishes(&mut out));
     true
 }
 
 /// A spent peer answers want of memory to each call, and what stood in `out` stands there.
-fn check_spent<P: Peer>(peer: &mut P, piece: &[u8], out: &mut Vec<u8>, tally: &mut Tally) {
+fn check_spent(peer: &mut Fed, piece: &[u8], out: &mut Vec<u8>, tally: &mut Tally) {
     let before = out.len();
-    tally.compare(peer.feed(piece, out).is_err());
+    tally.compare(!peer.takes(piece, out));
     tally.compare(keeps(out.as_slice(), before));
-    tally.compare(peer.finish(out).is_err());
+    tally.compare(!peer.finishes(out));
     tally.compare(keeps(out.as_slice(), before));
 }
 

@@ -1,13 +1,13 @@
 //! Streams that a session or an echo takes, by single calls of `take` or `take_into`.
 
-ghost use Rattle.std.specs.Prelude.{◌≤◌, length, IfOk};
+ghost use Rattle.std.specs.Prelude.{◌≡◌, ◌≤◌, length, IfOk};
 
 use crate::events::{Told, is_lent_at, is_told_at};
 use crate::streams::Stream;
 use crate::tally::Tally;
 use std::alloc::Global;
 use ws_base::NoMemory;
-use ws_session::{Echo, Limits, PayloadRoom, Session, Status};
+use ws_session::{Echo, Limits, PayloadRoom, Session, Status, Taken};
 use ws_wire::{NO_KEY, Role};
 
 /// An endpoint that takes bytes.
@@ -61,32 +61,69 @@ impl Taker {
     ) -> Result<Step, NoMemory>
         ensures { IfOk result (λ step. step.used ≤ length piece.now) }
     {
-        let (used, event) = match self {
+        match self {
             Taker::Session(session) => {
-                let taken = session.take(piece, NO_KEY, out)?;
-                (taken.used, taken.event)
+                let taken = take_by(session, piece, out)?;
+                Ok(step_of(&taken, events, place))
             }
+            Taker::Lending(session, room) => lend_by(session, piece, out, room, events, place),
             Taker::Echo(echo) => {
-                let taken = echo.take(piece, NO_KEY, out)?;
-                (taken.used, taken.event)
+                let taken = take_by_echo(echo, piece, out)?;
+                Ok(step_of(&taken, events, place))
             }
-            Taker::Lending(session, room) => {
-                let taken = session.take_into(piece, NO_KEY, out, room)?;
-                let right = match taken.event {
-                    Some(kind) => Some(is_lent_at(kind, room.as_slice(), events, place)),
-                    None => None,
-                };
-                return Ok(Step {
-                    used: taken.used,
-                    right,
-                });
-            }
-        };
-        let right = match &event {
-            Some(event) => Some(is_told_at(event, events, place)),
-            None => None,
-        };
-        Ok(Step { used, right })
+        }
+    }
+}
+
+/// One call of a session.
+fn take_by(session: &mut Session, piece: &[u8], out: &mut Vec<u8>) -> Result<Taken, NoMemory>
+    ensures { IfOk result (λ taken. taken.used ≤ length piece.now) }
+{
+    let taken = session.take(piece, NO_KEY, out)?;
+    Ok(taken)
+}
+
+/// One call of an echo.
+fn take_by_echo(echo: &mut Echo, piece: &[u8], out: &mut Vec<u8>) -> Result<Taken, NoMemory>
+    ensures { IfOk result (λ taken. taken.used ≤ length piece.now) }
+{
+    let taken = echo.take(piece, NO_KEY, out)?;
+    Ok(taken)
+}
+
+/// One call of a session that lends, whose event is compared with the one at this place of the list.
+fn lend_by(
+    session: &mut Session,
+    piece: &[u8],
+    out: &mut Vec<u8>,
+    room: &mut PayloadRoom,
+    events: &[Told],
+    place: usize,
+) -> Result<Step, NoMemory>
+    ensures { IfOk result (λ step. step.used ≤ length piece.now) }
+{
+    let taken = session.take_into(piece, NO_KEY, out, room)?;
+    let right = match taken.event {
+        Some(kind) => Some(is_lent_at(kind, room.as_slice(), events, place)),
+        None => None,
+    };
+    Ok(Step {
+        used: taken.used,
+        right,
+    })
+}
+
+/// What a call took, its event compared with the one at this place of the list.
+fn step_of(taken: &Taken, events: &[Told], place: usize) -> Step
+    ensures { result.used ≡ taken.now.used }
+{
+    let right = match &taken.event {
+        Some(event) => Some(is_told_at(event, events, place)),
+        None => None,
+    };
+    Step {
+        used: taken.used,
+        right,
     }
 }
 

@@ -1,14 +1,13 @@
 //! Rows of peers.
 
-ghost use Rattle.ws_scripts.specs.Scripts.{CanBeRun};
+ghost use Rattle.ws_scripts.specs.Scripts.{CanBeRun, CutsOff};
 
-use crate::row_fault::RowFault;
-use crate::words::{bytes_of, mask_key_of, role_of};
 use std::alloc::Global;
-use std::fmt::Write;
+use test_row_frames::{
+    RowFault, bytes_of, mask_key_of, put, put_hex, put_number, put_shown, role_of,
+};
 use ws_base::NoMemory;
-use ws_formats::Hex;
-use ws_peer::{AppStep, Peer, TungPeer, run_case_with, run_over_app, run_over_echo_as, tester_key};
+use ws_peer::{AppStep, TungPeer, run_case_with, run_over_app, run_over_echo_as, tester_key};
 use ws_sends::{KeyedSend, read_send};
 use ws_suite::{
     Case, Chop, Ended, Expectation, Step, Transcript, Verdict, case, ids, judge_end, judge_with,
@@ -19,23 +18,9 @@ use ws_wire::Role;
 /// The key of the cases where none is given.
 const KEY: [u8; 4] = [0x37, 0xfa, 0x21, 0x3d];
 
-/// `verdict own|tung NAME`: the verdict on our echo, or on `tungstenite`, as a server in a case. `none` where no case
-/// has the name.
-pub fn tell_verdict(alloc: Global, words: &[&str], out: &mut String) -> Result<(), RowFault> {
-    tell_verdict_on(alloc, Role::Server, words, out)
-}
-
-/// `verdict_client own|tung NAME`: the same as a client.
-pub fn tell_client_verdict(
-    alloc: Global,
-    words: &[&str],
-    out: &mut String,
-) -> Result<(), RowFault> {
-    tell_verdict_on(alloc, Role::Client, words, out)
-}
-
-/// The verdict on a peer of this role.
-fn tell_verdict_on(
+/// `verdict own|tung NAME`, `verdict_client ..`: the verdict on our echo, or on `tungstenite`, as an end of this role
+/// in a case. `none` where no case has the name.
+pub fn tell_verdict(
     alloc: Global,
     tested: Role,
     words: &[&str],
@@ -48,21 +33,14 @@ fn tell_verdict_on(
         return Err(RowFault::NotARow);
     };
     let Some(case) = case(alloc, name.as_str())? else {
-        out.push_str("none")?;
-        return Ok(());
+        return put(out, "none");
     };
     let verdict = match *peer {
         "own" => own_verdict(alloc, tested, &case, KEY)?,
-        "tung" => verdict_on(
-            alloc,
-            tested,
-            &case,
-            &mut TungPeer::with_role(alloc, tested, KEY)?,
-        )?,
+        "tung" => tung_verdict(alloc, tested, &case)?,
         _ => return Err(RowFault::NotARow),
     };
-    write!(out, "{verdict}")?;
-    Ok(())
+    put_shown(out, "", &verdict)
 }
 
 /// `verdict_of ROLE SCRIPT`: the verdict on our echo in this role, to which the script that the text tells is run, or
@@ -78,10 +56,9 @@ pub fn tell_script_verdict(
     let tested = role_of(role)?;
     let text = bytes_of(alloc, text)?;
     match read_script(alloc, text.as_slice()) {
-        Ok(case) => write!(out, "{}", own_verdict(alloc, tested, &case, KEY)?)?,
-        Err(fault) => write!(out, "{fault}")?,
+        Ok(case) => put_shown(out, "", &own_verdict(alloc, tested, &case, KEY)?),
+        Err(fault) => put_shown(out, "", &fault),
     }
-    Ok(())
 }
 
 /// The verdict on a new echo.
@@ -92,24 +69,10 @@ fn own_verdict(alloc: Global, tested: Role, case: &Case, key: [u8; 4]) -> Result
     judge_end(alloc, tested, &transcript)
 }
 
-/// `verdicts CHOP KEY`: how many of the listed cases our echo passes as a server where each is cut so and masked with
-/// this key, or the first that it doesn't, and the verdict. `CHOP` is as in the table of cases. In single bytes, `O1`,
-/// the cases are run alone whose payloads have at most 1000 bytes.
-pub fn count_passes(alloc: Global, words: &[&str], out: &mut String) -> Result<(), RowFault> {
-    count_passes_of(alloc, Role::Server, words, out)
-}
-
-/// `verdicts_client CHOP KEY`: the same as a client, which masks with the key.
-pub fn count_client_passes(
-    alloc: Global,
-    words: &[&str],
-    out: &mut String,
-) -> Result<(), RowFault> {
-    count_passes_of(alloc, Role::Client, words, out)
-}
-
-/// How many of the listed cases our echo passes in this role.
-fn count_passes_of(
+/// `verdicts CHOP KEY`, `verdicts_client ..`: how many of the listed cases our echo passes in this role where each is
+/// cut so and masked with this key, by the client, or the first that it doesn't, and the verdict. `CHOP` is as in the
+/// table of cases. In single bytes, `O1`, the cases are run alone whose payloads have at most 1000 bytes.
+pub fn count_passes(
     alloc: Global,
     tested: Role,
     words: &[&str],
@@ -128,27 +91,43 @@ fn count_passes_of(
     let key = mask_key_of(key)?;
     let mut passed = 0_u32;
     for name in ids(alloc)?.as_slice() {
-        let Some(case) = case(alloc, name.as_str())? else {
-            return Err(RowFault::NotARow);
-        };
-        if !has_payloads_of(&case, most) {
-            continue;
-        }
-        let cut = Case {
-            id: case.id,
-            steps: case.steps,
-            chop,
-        };
-        match own_verdict(alloc, tested, &cut, key)? {
-            Verdict::Pass => passed = passed.saturating_add(1),
-            verdict => {
-                write!(out, "{} {verdict}", cut.id)?;
-                return Ok(());
+        match cut_verdict(alloc, tested, name.as_str(), chop, most, key)? {
+            None => {}
+            Some(Verdict::Pass) => passed = passed.saturating_add(1),
+            Some(verdict) => {
+                put(out, name.as_str())?;
+                return put_shown(out, " ", &verdict);
             }
         }
     }
-    write!(out, "{passed} PASS")?;
-    Ok(())
+    put_number(out, "", u64::from(passed))?;
+    put(out, " PASS")
+}
+
+/// The verdict on a new echo in the case of this name where that is cut so, if its payloads have at most so many bytes.
+fn cut_verdict(
+    alloc: Global,
+    tested: Role,
+    name: &str,
+    chop: Chop,
+    most: u32,
+    key: [u8; 4],
+) -> Result<Option<Verdict>, RowFault>
+    requires { CutsOff chop }
+{
+    let Some(case) = case(alloc, name)? else {
+        return Err(RowFault::NotARow);
+    };
+    if !has_payloads_of(&case, most) {
+        return Ok(None);
+    }
+    let cut = Case {
+        id: case.id,
+        steps: case.steps,
+        chop,
+    };
+    let verdict = own_verdict(alloc, tested, &cut, key)?;
+    Ok(Some(verdict))
 }
 
 /// Whether each payload of a case has at most so many bytes.
@@ -163,16 +142,12 @@ fn has_payloads_of(case: &Case, most: u32) -> bool {
     true
 }
 
-/// The verdict on a peer.
-fn verdict_on<P: Peer>(
-    alloc: Global,
-    tested: Role,
-    case: &Case,
-    peer: &mut P,
-) -> Result<Verdict, NoMemory>
+/// The verdict on a new peer of `tungstenite`.
+fn tung_verdict(alloc: Global, tested: Role, case: &Case) -> Result<Verdict, NoMemory>
     requires { CanBeRun case.now }
 {
-    let transcript = run_case_with(alloc, case, peer, tester_key(tested, KEY))?;
+    let mut peer = TungPeer::with_role(alloc, tested, KEY)?;
+    let transcript = run_case_with(alloc, case, &mut peer, tester_key(tested, KEY))?;
     judge_end(alloc, tested, &transcript)
 }
 
@@ -186,8 +161,7 @@ pub fn judge_app(alloc: Global, words: &[&str], out: &mut String) -> Result<(), 
     let tested = role_of(role)?;
     let transcript = run_of_app(alloc, tested, text, plan)?;
     let verdict = judge_with(alloc, tested, Expectation::Protocol, &transcript)?;
-    write!(out, "{verdict}")?;
-    Ok(())
+    put_shown(out, "", &verdict)
 }
 
 /// `app_got ROLE SCRIPT TAKES SENDS ..`: what was got of the same application, turn by turn, and which end ended the
@@ -198,15 +172,15 @@ pub fn tell_app(alloc: Global, words: &[&str], out: &mut String) -> Result<(), R
     };
     let transcript = run_of_app(alloc, role_of(role)?, text, plan)?;
     for turn in transcript.turns.as_slice() {
-        write!(out, "{}, ", Hex(turn.got.as_slice()))?;
+        put_hex(out, "", turn.got.as_slice())?;
+        put(out, ", ")?;
     }
     let end = match transcript.ended {
         Ended::Tester => "tester",
         Ended::Peer => "peer",
         Ended::Broken => "broken",
     };
-    out.push_str(end)?;
-    Ok(())
+    put(out, end)
 }
 
 /// The transcript of a script over a new application with this plan.
