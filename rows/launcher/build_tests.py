@@ -6,6 +6,14 @@ from clone import PROGRAM, SOURCE
 
 BUILD = ("tools/build",)
 
+# With so many free bytes two checks go on at once, also where other programs take some of them meanwhile.
+ENOUGH = 8_000_000_000
+
+
+def free_memory():
+    with open("/proc/meminfo", encoding="ascii") as numbers:
+        return next(1024 * int(line.split()[1]) for line in numbers if line.startswith("MemAvailable:"))
+
 
 def tower(clone):
     """A program on two libraries, which stand on a low one."""
@@ -40,10 +48,13 @@ def those_that_do_not_stand_on_each_other_are_built_at_once(clone):
     status, out, faults = clone.run(how=BUILD, seconds="0.3")
     assert (status, out) == (0, ""), (status, out, faults)
     middle = [note.split()[1] for note in clone.notes()[2:6]]
-    if len(os.sched_getaffinity(0)) > 1:
-        assert middle == ["begins", "begins", "ends", "ends"], clone.notes()
+    at_once, in_turn = ["begins", "begins", "ends", "ends"], ["begins", "ends", "begins", "ends"]
+    if len(os.sched_getaffinity(0)) == 1:
+        assert middle == in_turn, clone.notes()
+    elif free_memory() > ENOUGH:
+        assert middle == at_once, clone.notes()
     else:
-        assert middle == ["begins", "ends", "begins", "ends"], clone.notes()
+        assert middle in (at_once, in_turn), clone.notes()
 
 
 def each_is_told(clone):
