@@ -139,7 +139,12 @@ impl<'a> Network for PolledNetwork<'a> {
         }
     }
 
-    fn begin(&mut self, address: SocketAddr, _at: usize) -> Result<PolledStream<'a>, ConnectMiss> {
+    fn begin(
+        &mut self,
+        address: SocketAddr,
+        _at: usize,
+        _now: u64,
+    ) -> Result<PolledStream<'a>, ConnectMiss> {
         self.book.stage.begin();
         if address.port() != PORT {
             return Err(ConnectMiss::NotTaken(ErrorKind::AddrNotAvailable));
@@ -156,7 +161,7 @@ impl<'a> Network for PolledNetwork<'a> {
     }
 
     /// It is made when it is asked for the second time.
-    fn progress(&mut self, _stream: &PolledStream<'a>) -> Progress<ConnectMiss> {
+    fn progress(&mut self, _stream: &PolledStream<'a>, _at: usize) -> Progress<ConnectMiss> {
         let asked = self.book.stage.asked.get().saturating_add(1);
         self.book.stage.asked.set(asked);
         if asked < 2 {

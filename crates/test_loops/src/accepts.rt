@@ -149,7 +149,7 @@ fn tell_ended(
     match all.take(at) {
         Place::Open(slot) => put_done(slot, out)?,
         Place::Broken => write!(out, "no memory; ")?,
-        Place::Empty => {}
+        Place::Empty | Place::Pending(_) => {}
     }
     Ok(())
 }

@@ -24,6 +24,21 @@ pub enum Miss {
     NotAccepted,
 }
 
+/// What a connection to one address does, and its stream.
+#[derive(Clone, Copy)]
+pub struct Try<'a> {
+    pub word: &'a str,
+    pub stream: &'a str,
+}
+
+/// A connection that was begun for a place, and how often it was asked how far it has come.
+#[derive(Clone, Copy)]
+struct Begun {
+    place: usize,
+    address: usize,
+    asked: usize,
+}
+
 /// Each word says what a connection to one address does: `b` that it is not begun, else a letter each time that it is
 /// asked how far it has come, `p` for pending, `m` for made and `f` for failed, and behind the last one it is pending.
 /// `x` says that the address can't be listened at. What was done is noted.
@@ -31,16 +46,29 @@ pub enum Miss {
 pub struct ListedNetwork<'a> {
     alloc: Global,
     found: bool,
-    tries: Vec<&'a str>,
-    stream: &'a str,
+    tries: Vec<Try<'a>>,
+    begun: Vec<Begun>,
     accepts: &'a str,
     clients: &'a [&'a str],
     at: usize,
-    asked: usize,
     pub did: String,
 }
 
 impl<'a> ListedNetwork<'a> {
+    /// One that has these addresses.
+    pub fn of(alloc: Global, tries: Vec<Try<'a>>) -> ListedNetwork<'a> {
+        ListedNetwork {
+            alloc,
+            found: true,
+            tries,
+            begun: Vec::new(alloc),
+            accepts: "",
+            clients: &[],
+            at: 0,
+            did: String::new(alloc),
+        }
+    }
+
     /// The words, parted by commas; `-` has no address, and of `!` the look-up fails. Each connection is a stream of
     /// this word; a listener has these letters and the streams of these words.
     pub fn new(
@@ -53,27 +81,65 @@ impl<'a> ListedNetwork<'a> {
         let mut tries = Vec::new(alloc);
         if words != "-" && words != "!" {
             for word in words.split(',') {
-                tries.push(word)?;
+                tries.push(Try { word, stream })?;
             }
         }
         Ok(ListedNetwork {
             alloc,
             found: words != "!",
             tries,
-            stream,
+            begun: Vec::new(alloc),
             accepts,
             clients,
             at: 0,
-            asked: 0,
             did: String::new(alloc),
         })
     }
 
-    /// What the next call finds of the connection that was begun last.
-    fn mark(&self) -> Option<u8> {
-        let word = self.tries.get(self.at)?;
-        let mark = word.as_bytes().get(self.asked)?;
+    /// What is found of a connection to this address, where it was asked for so often.
+    fn mark(&self, address: usize, asked: usize) -> Option<u8> {
+        let found = self.tries.get(address)?;
+        let mark = found.word.as_bytes().get(asked)?;
         Some(*mark)
+    }
+
+    /// Asks for the connection that was begun last for this place: its address, and what is found of it.
+    fn asked(&mut self, at: usize) -> Option<(usize, Option<u8>)> {
+        let mut found = None;
+        for begun in self.begun.iter_mut() {
+            if begun.place == at {
+                found = Some((begun.address, begun.asked));
+                begun.asked = begun.asked.saturating_add(1);
+            }
+        }
+        let (address, asked) = found?;
+        Some((address, self.mark(address, asked)))
+    }
+
+    /// A connection to this address is begun for this place, in place of one that was.
+    fn remember(&mut self, place: usize, address: usize) -> Result<(), AllocError> {
+        let next = Begun {
+            place,
+            address,
+            asked: 0,
+        };
+        for begun in self.begun.iter_mut() {
+            if begun.place == place {
+                *begun = next;
+                return Ok(());
+            }
+        }
+        self.begun.push(next)?;
+        Ok(())
+    }
+
+    /// The stream of a connection to this address.
+    fn stream(&self, address: usize) -> Option<ListedStream> {
+        let found = self.tries.get(address)?;
+        match stream_by(self.alloc, found.stream) {
+            Ok(stream) => Some(stream),
+            Err(_) => None,
+        }
     }
 
     /// Notes what was done. Where memory runs out, the row differs.
@@ -116,34 +182,33 @@ impl<'a> Network for ListedNetwork<'a> {
         }
     }
 
-    fn begin(&mut self, address: usize, _at: usize) -> Result<ListedStream, Miss> {
-        (self.at, self.asked) = (address, 0);
+    fn begin(&mut self, address: usize, at: usize, _now: u64) -> Result<ListedStream, Miss> {
         self.note("begin", address);
-        if self.mark() == Some(b'b') {
+        if self.mark(address, 0) == Some(b'b') || self.remember(at, address).is_err() {
             return Err(Miss::NotBegun(address));
         }
-        match stream_by(self.alloc, self.stream) {
-            Ok(stream) => Ok(stream),
-            Err(_) => Err(Miss::NotBegun(address)),
+        match self.stream(address) {
+            Some(stream) => Ok(stream),
+            None => Err(Miss::NotBegun(address)),
         }
     }
 
-    fn progress(&mut self, _stream: &ListedStream) -> Progress<Miss> {
-        let at = self.at;
-        self.note("ask", at);
-        let mark = self.mark();
-        self.asked = self.asked.saturating_add(1);
+    fn progress(&mut self, _stream: &ListedStream, at: usize) -> Progress<Miss> {
+        let Some((address, mark)) = self.asked(at) else {
+            return Progress::Pending;
+        };
+        self.note("ask", address);
         match mark {
             Some(b'm') => Progress::Made,
-            Some(b'f') => Progress::Failed(Miss::Failed(at)),
+            Some(b'f') => Progress::Failed(Miss::Failed(address)),
             _ => Progress::Pending,
         }
     }
 
     fn bind(&mut self, address: usize) -> Result<ListedListener<'a>, Miss> {
-        (self.at, self.asked) = (address, 0);
+        self.at = address;
         self.note("bind", address);
-        if self.mark() == Some(b'x') {
+        if self.mark(address, 0) == Some(b'x') {
             return Err(Miss::NotBound(address));
         }
         Ok(ListedListener {

@@ -109,7 +109,7 @@ impl Tells<NotedExchange, ListedStream> for Lines<'_> {
         match ended {
             Place::Open(slot) => self.tell_slot(at, time, slot)?,
             Place::Broken => write!(self.out, "{at} at {time}: no memory; ")?,
-            Place::Empty => return Err(RowFault::NotARow),
+            Place::Empty | Place::Pending(_) => return Err(RowFault::NotARow),
         }
         Ok(())
     }

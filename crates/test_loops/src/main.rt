@@ -9,6 +9,7 @@ mod bounded_echo;
 mod chance;
 mod chances;
 mod counted;
+mod dials;
 mod echoes;
 mod idles;
 mod listed_network;
@@ -61,6 +62,7 @@ fn answer_to<N: Net + Clock>(alloc: Global, net: &N, row: &str) -> Result<String
         "scarce" => chances::run_scarce(alloc, words, &mut out)?,
         "echo" => echoes::run_echoes(alloc, words, &mut out)?,
         "idle" => idles::run_idle(alloc, words, &mut out)?,
+        "dial" => dials::run_dials(alloc, words, &mut out)?,
         "meet" => meetings::run_meeting(alloc, words, &mut out)?,
         "serve" => servings::run_serving(alloc, words, &mut out)?,
         "places" => servings::run_places(alloc, words, &mut out)?,

@@ -9,8 +9,8 @@ use crate::runs::room;
 use std::alloc::Global;
 use std::fmt::Write;
 use ws_formats::Hex;
-use ws_loops::Poller;
-use ws_networks::{Limits, Met, Missed, run_at};
+use ws_loops::{NoLines, Poller};
+use ws_networks::{Errand, Limits, Met, Missed, run_at};
 
 /// `meet LIMIT DEADLINE TRIES WAKES SLOT`: an exchange over a connection to a name, whose addresses take connections as
 /// `TRIES` says. What the network did; why there is no connection, or what its stream did, what was written, and what
@@ -27,13 +27,17 @@ pub fn run_meeting(alloc: Global, words: &[&str], out: &mut String) -> Result<()
     let mut poller = ListedPoller::new(wakes_by(alloc, wakes)?);
     let machine = machine_by(alloc, slot)?;
     let mut room = room(alloc)?;
+    let errand = Errand {
+        name: "name",
+        machine,
+        limits,
+    };
     let met = run_at(
         alloc,
         &mut network,
         &mut poller,
-        "name",
-        machine,
-        limits,
+        &mut NoLines,
+        errand,
         room.as_mut_slice(),
     )?;
     write!(out, "{}", network.did.as_str().trim_start())?;
@@ -57,7 +61,7 @@ fn put_met(met: Met<Vec<u8>, ListedStream, Miss>, out: &mut String) -> Result<()
 }
 
 /// Why there is no connection.
-fn put_missed(why: Missed<Miss>, out: &mut String) -> Result<(), RowFault> {
+pub fn put_missed(why: Missed<Miss>, out: &mut String) -> Result<(), RowFault> {
     match why {
         Missed::NoAddress => write!(out, "no address")?,
         Missed::TimedOut => write!(out, "timed out")?,

@@ -9,8 +9,8 @@ use std::alloc::Global;
 use std::fmt::Write;
 use std::net::Net;
 use std::time::Clock;
-use ws_loops::Poller;
-use ws_networks::{Limits, Met, Missed, run_at};
+use ws_loops::{NoLines, Poller};
+use ws_networks::{Errand, Limits, Met, Missed, run_at};
 use wst_network::{ConnectMiss, EndingStream, StreamEnd, SystemStream, system_network};
 
 /// `socket ADDRESS LIMIT DEADLINE LEN MOST`: an exchange that writes so many bytes to an address, and reads at most so
@@ -37,13 +37,17 @@ pub fn run_socket<N: Net + Clock>(
     };
     let machine = NotedExchange::new(alloc, counted(alloc, len)?, most);
     let mut room = room(alloc)?;
+    let errand = Errand {
+        name: address,
+        machine,
+        limits,
+    };
     let met = run_at(
         alloc,
         &mut network,
         &mut poller,
-        address,
-        machine,
-        limits,
+        &mut NoLines,
+        errand,
         room.as_mut_slice(),
     )?;
     put_met(met, out)?;

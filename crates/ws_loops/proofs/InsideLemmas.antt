@@ -1,5 +1,5 @@
 -- Places that are called, and all that a loop keeps, before they are served and behind it.
-use Rattle.std.proofs.Common.{◌≡◌, ◌∙◌, ℕ, ◌+◌, ◌<◌, ◌≤◌, ◌⊎◌, ◌||◌, Bool, true, false, List, []}
+use Rattle.std.proofs.Common.{◌≡◌, ◌∙◌, ℕ, ◌+◌, ◌<◌, ◌≤◌, ◌⊎◌, ◌||◌, ◌&&◌, not, Bool, true, false, List, []}
 use Rattle.std.specs.Bool.{⊤}
 use Rattle.std.proofs.Common.{length, Option, Some, None, slice_set, refl, sym, ap, subst, arith, inl, inr}
 use Rattle.std.proofs.lemmas.Bool.{cases_eq, false≢true}
@@ -10,27 +10,28 @@ use Rattle.ws_machines.specs.Machines.{Wants}
 use Rattle.ws_loops.specs.Deeds.{Deed}
 use Rattle.ws_loops.specs.Inside.{AreAllCalled, AreCalledTo, HasMarkedTo, HasServedCalled, HasTurnByCall, IsCalledSo}
 use Rattle.ws_loops.specs.Inside.{CoversBoth, HasCalled, HasTurnedOver, IsCalledOnce, IsMarked, StaysCalled}
-use Rattle.ws_loops.specs.Paces.{is_due}
-use Rattle.ws_loops.specs.Places.{AreOccupied, StayTaken, is_empty}
-use Rattle.ws_loops.specs.Sinks.{lines_at}
+use Rattle.ws_loops.specs.Paces.{IsBefore, has_ended_by, is_due}
+use Rattle.ws_loops.specs.Places.{AreOccupied, StayOfKind, is_empty}
+use Rattle.ws_loops.specs.Sinks.{AreLinesOfPlaces, lines_at}
 use Rattle.ws_loops.specs.Loops.{AreServed, AtEachPlace, Covers, GiveTurns}
 use Rattle.ws_loops.specs.Loops.{HasPlaceTurn, IsAmong, IsFrom, IsServedOrNot, AreSeatsSound}
 use Rattle.ws_loops.specs.Loops.{IsLoopSound}
 use Rattle.ws_loops.specs.Limits.{ComesLater, IsTree}
-use Rattle.ws_loops.specs.Loops.{IsSeenTo, RestsAt, RestsUncalled}
+use Rattle.ws_loops.specs.Loops.{IsSeenTo, RestsAt, RestsUncalled, RestsUntil}
+use Rattle.ws_loops.specs.Watches.{is_watch_due, watched_by}
 use Rattle.ws_loops.specs.declared.inside.Door.{Door}
 use Rattle.ws_loops.specs.declared.inside.Inside.{Inside}
 use Rattle.ws_loops.specs.declared.limits.Limits.{Limits}
 use Rattle.ws_loops.specs.declared.places.Agenda.{Agenda}
 use Rattle.ws_loops.specs.declared.places.Place.{Place}
-use Rattle.ws_loops.specs.declared.places.Place.TheVariants.{Empty, Open, Broken}
+use Rattle.ws_loops.specs.declared.places.Place.TheVariants.{Empty, Open, Pending, Broken}
 use Rattle.ws_loops.specs.declared.places.Seats.{Seats}
 use Rattle.ws_loops.specs.declared.poller.Mark.{Mark}
 use Rattle.ws_loops.specs.declared.poller.Mark.TheVariants as mark
 use Rattle.ws_loops.specs.declared.poller.Readiness.{Readiness}
 use Rattle.ws_loops.specs.declared.poller.Wake.{Wake}
-use Rattle.ws_loops.specs.declared.slot.Slot.{Slot}
-use Rattle.ws_loops.proofs.PlaceLemmas.{get_set_other, get_set_same, length_set, place_of, set_cases}
+use Rattle.ws_loops.specs.declared.watch.Watch.{Watch}
+use Rattle.ws_loops.proofs.PlaceLemmas.{get_set_other, get_set_same, length_set, place_of, set_cases, still_taken}
 use Rattle.ws_loops.proofs.RoundLemmas.{still_turn}
 
 -- ---- calls
@@ -315,6 +316,20 @@ module _ {M S : Type 0} where
       by j at w place within w_is (inr other) lt =
           stays_so at w.ready (all j at w (omega (arith, lt, other)) w_is place within)
 
+-- ---- a connection that is under way, of which nothing is found and whose time has not come
+
+pub still_watch : (watch : Watch) (now : ℕ) → is_watch_due watch now ≡ false
+    → watch ≡ watched_by (record { read = false; write = false }) now watch
+still_watch watch now h = same (watch.stirred || has_ended_by watch.until now)
+    (unstirred watch.stirred (has_ended_by watch.until now) h)
+  where
+    same : (s : Bool) → s ≡ watch.stirred → watch ≡ record { until = watch.until; stirred = s }
+    same s e = subst (λ (b : Bool). watch ≡ record { until = watch.until; stirred = b }) (sym e) refl
+
+    unstirred : (s over : Bool) → (not s && over) ≡ false → (s || over) ≡ s
+    unstirred true over e = refl
+    unstirred false over e = e
+
 -- ---- all that a loop keeps
 
 module _ {M S : Type 0} (agrees : M → M → List Told → Type 0) (wants : M → Wants) where
@@ -354,9 +369,8 @@ module _ {M S : Type 0} (agrees : M → M → List Told → Type 0) (wants : M �
       → IsLoopSound agrees wants new
   whole_marked old new h k = record {
     standing = standing_same old.seats new.seats h.standing k.places k.calls k.tickets k.given k.ended k.limits;
-    rests = λ i slot is.
-        rests_so i slot (h.rests i slot (subst (λ (l : List (Place M S)). slice_get l i ≡ Some
-        (Open slot)) k.places is));
+    rests = λ i place is.
+        rests_so i place (h.rests i place (subst (λ (l : List (Place M S)). slice_get l i ≡ Some place) k.places is));
     called = λ i ready is. called_so_far i (k.called i ready is);
     all = λ i lt. subst (λ (l : List ℕ). IsFrom l 0 i) (sym k.all)
         (h.all i (subst (λ (l : List (Place M S)). i < length l) k.places lt));
@@ -372,12 +386,12 @@ module _ {M S : Type 0} (agrees : M → M → List Told → Type 0) (wants : M �
       at_once e (inl f) = f ∙ e
       at_once e (inr f) = f
 
-      rests_so : (i : ℕ) (slot : Slot M S) → IsSeenTo wants old.list.items old.seats.agenda i slot
-          → IsSeenTo wants new.list.items new.seats.agenda i slot
-      rests_so i slot (inl l) = inl (k.listed i l)
-      rests_so i slot (inr (inl e)) = inr (inl (at_once e k.any))
-      rests_so i slot (inr (inr r)) =
-          inr (inr (subst (λ (l : Limits). RestsAt wants l.times.items i slot) (sym k.limits) r))
+      rests_so : (i : ℕ) (place : Place M S) → IsSeenTo wants old.list.items old.seats.agenda i place
+          → IsSeenTo wants new.list.items new.seats.agenda i place
+      rests_so i place (inl l) = inl (k.listed i l)
+      rests_so i place (inr (inl e)) = inr (inl (at_once e k.any))
+      rests_so i place (inr (inr r)) =
+          inr (inr (subst (λ (l : Limits). RestsAt wants l.times.items i place) (sym k.limits) r))
 
       from_old : (i : ℕ) → IsFrom old.list.items 0 i ⊎ (old.seats.agenda.all ≡ true)
           → IsFrom new.list.items 0 i ⊎ (new.seats.agenda.all ≡ true)
@@ -396,29 +410,41 @@ module _ {M S : Type 0} (agrees : M → M → List Told → Type 0) (wants : M �
       → inside.seats.agenda.all ≡ false → seats.places.items ≡ inside.seats.places.items
       → seats.agenda ≡ inside.seats.agenda
       → RestsUncalled wants seats
-  rests_listed inside seats h called some places agenda i slot is call =
-      by (h.rests i slot (subst (λ (l : List (Place M S)). slice_get l i ≡ Some (Open slot)) places is))
+  rests_listed inside seats h called some places agenda i place is call =
+      by (h.rests i place (subst (λ (l : List (Place M S)). slice_get l i ≡ Some place) places is))
     where
-      by : IsSeenTo wants inside.list.items inside.seats.agenda i slot
-          → IsSeenTo wants seats.agenda.later.items seats.agenda i slot
+      by : IsSeenTo wants inside.list.items inside.seats.agenda i place
+          → IsSeenTo wants seats.agenda.later.items seats.agenda i place
       by (inl l) = absurd (called.called i (among_all inside.list.items i l) call)
       by (inr (inl e)) = absurd (false≢true (sym some ∙ e))
-      by (inr (inr r)) = inr (inr (subst (λ (a : Agenda). RestsAt wants a.limits.times.items i slot) (sym agenda) r))
+      by (inr (inr r)) = inr (inr (subst (λ (a : Agenda). RestsAt wants a.limits.times.items i place) (sym agenda) r))
+
+  -- nothing is due in a place by now
+  abbrev pub IsStill : ℕ → Place M S → Type 0
+  IsStill now Empty = ⊤
+  IsStill now (Open slot) = is_due (wants slot.machine) slot.pace now ≡ false
+  IsStill now (Pending watch) = is_watch_due watch now ≡ false
+  IsStill now Broken = ⊤
+
+  rests_by : (now : ℕ) (time : Option ℕ) (place : Place M S) → IsBefore now time → RestsUntil wants time place
+      → IsStill now place
+  rests_by now time Empty before rests = tt
+  rests_by now time (Open slot) before rests = rests now before
+  rests_by now time (Pending watch) before rests = rests now before
+  rests_by now time Broken before rests = tt
 
   -- and nothing is due in it by now, where no time has come
   pub not_due_listed : (inside : Inside M S) (calls : List (Option Readiness)) (now : ℕ)
       → IsLoopSound agrees wants inside
       → AreAllCalled inside.list.items inside.seats.calls.items calls → inside.seats.agenda.all ≡ false
-      → ComesLater inside.seats.agenda.limits.times.items now → (i : ℕ) (slot : Slot M S)
-      → slice_get inside.seats.places.items i ≡ Some (Open slot) → slice_get calls i ≡ Some None
-      → is_due (wants slot.machine) slot.pace now ≡ false
-  not_due_listed inside calls now h called some early i slot is call = by (h.rests i slot is)
+      → ComesLater inside.seats.agenda.limits.times.items now → (i : ℕ) (place : Place M S)
+      → slice_get inside.seats.places.items i ≡ Some place → slice_get calls i ≡ Some None → IsStill now place
+  not_due_listed inside calls now h called some early i place is call = by (h.rests i place is)
     where
-      by : IsSeenTo wants inside.list.items inside.seats.agenda i slot
-          → is_due (wants slot.machine) slot.pace now ≡ false
+      by : IsSeenTo wants inside.list.items inside.seats.agenda i place → IsStill now place
       by (inl l) = absurd (called.called i (among_all inside.list.items i l) call)
       by (inr (inl e)) = absurd (false≢true (sym some ∙ e))
-      by (inr (inr (time, there, rests))) = rests now (early i time there)
+      by (inr (inr (time, there, rests))) = rests_by now time place (early i time there) rests
 
   -- and where all are called, none isn't
   pub all_called : (inside : Inside M S) (places : List (Place M S)) (calls : List (Option Readiness))
@@ -431,10 +457,10 @@ module _ {M S : Type 0} (agrees : M → M → List Told → Type 0) (wants : M �
   pub rests_all : (inside : Inside M S) (seats : Seats M S) → IsLoopSound agrees wants inside
       → AreAllCalled inside.all.items inside.seats.calls.items seats.calls.items
       → seats.places.items ≡ inside.seats.places.items → RestsUncalled wants seats
-  rests_all inside seats h called places i slot is call =
-      absurd (all_called inside seats.places.items seats.calls.items h called places i (Open slot) is call)
+  rests_all inside seats h called places i place is call =
+      absurd (all_called inside seats.places.items seats.calls.items h called places i place is call)
 
-  taken_still : (old new : List (Place M S)) (free : ℕ) → AreOccupied old free → StayTaken old new
+  taken_still : (old new : List (Place M S)) (free : ℕ) → AreOccupied old free → StayOfKind old new
       → AreOccupied new free
   taken_still old new free h k i place lt is = by (place_of old i (omega (
     arith,
@@ -444,11 +470,11 @@ module _ {M S : Type 0} (agrees : M → M → List Told → Type 0) (wants : M �
   )))
     where
       by : (x : Place M S) × (slice_get old i ≡ Some x) → is_empty place ≡ false
-      by (x, was) = k.each i x place was is (h i x lt was)
+      by (x, was) = still_taken x place (k.each i x place was is) (h i x lt was)
 
   -- all that a loop keeps, where its lines were not taken: something may be due in any place
   pub whole_refused : (old new : Inside M S) (seats : Seats M S) → IsLoopSound agrees wants old
-      → AreSeatsSound agrees wants seats → StayTaken old.seats.places.items seats.places.items
+      → AreSeatsSound agrees wants seats → StayOfKind old.seats.places.items seats.places.items
       → new.seats.places.items ≡ seats.places.items → new.seats.calls.items ≡ seats.calls.items
       → new.seats.tickets.items ≡ seats.tickets.items
       → new.seats.agenda.given ≡ seats.agenda.given → new.seats.agenda.ended ≡ seats.agenda.ended
@@ -458,7 +484,7 @@ module _ {M S : Type 0} (agrees : M → M → List Told → Type 0) (wants : M �
     standing =
         standing_same seats new.seats standing places (ap (λ (l : List (Option Readiness)). length l) calls) tickets
         given ended limits;
-    rests = λ i slot is. inr (inl any);
+    rests = λ i place is. inr (inl any);
     called = λ i ready is. inr any;
     all = λ i lt. subst (λ (l : List ℕ). IsFrom l 0 i) (sym all)
         (h.all i (omega (arith, taken.len, ap (λ (l : List (Place M S)). length l) places, lt)));
@@ -469,15 +495,14 @@ module _ {M S : Type 0} (agrees : M → M → List Told → Type 0) (wants : M �
 
   -- and where all that were called were served
   pub whole_served : (old mid new : Inside M S) → IsLoopSound agrees wants old → AreSeatsSound agrees wants mid.seats
-      → RestsUncalled wants mid.seats → StayTaken old.seats.places.items mid.seats.places.items
+      → RestsUncalled wants mid.seats → StayOfKind old.seats.places.items mid.seats.places.items
       → ((i : ℕ) (call : Option Readiness) → slice_get mid.seats.calls.items i ≡ Some call → call ≡ None)
       → mid.all.items ≡ old.all.items → mid.free ≡ old.free → HasTurnedOver mid new → IsLoopSound agrees wants new
   whole_served old mid new h standing rests taken none all free k = record {
     standing = standing_same mid.seats new.seats standing k.places (ap (λ (l : List
         (Option Readiness)). length l) k.calls) k.tickets k.given
         k.ended k.limits;
-    rests = λ i slot is. rests_so i slot (subst (λ (l : List (Place M S)). slice_get l i ≡ Some
-        (Open slot)) k.places is);
+    rests = λ i place is. rests_so i place (subst (λ (l : List (Place M S)). slice_get l i ≡ Some place) k.places is);
     called = λ i ready is. absurd (none-some ready (sym (none i (Some ready)
         (subst (λ (l : List (Option Readiness)). slice_get l i ≡ Some (Some ready)) k.calls is))));
     all = λ i lt. subst (λ (l : List ℕ). IsFrom l 0 i) (sym (k.all ∙ all))
@@ -488,20 +513,20 @@ module _ {M S : Type 0} (agrees : M → M → List Told → Type 0) (wants : M �
     within = omega (arith, k.free ∙ free, taken.len, ap (λ (l : List (Place M S)). length l) k.places, h.within);
   }
     where
-      rests_so : (i : ℕ) (slot : Slot M S) → slice_get mid.seats.places.items i ≡ Some (Open slot)
-          → IsSeenTo wants new.list.items new.seats.agenda i slot
-      rests_so i slot is = through (place_of mid.seats.calls.items i
-          (omega (arith, standing.calls, slice_get_within mid.seats.places.items i (Open slot) is)))
+      rests_so : (i : ℕ) (place : Place M S) → slice_get mid.seats.places.items i ≡ Some place
+          → IsSeenTo wants new.list.items new.seats.agenda i place
+      rests_so i place is = through (place_of mid.seats.calls.items i
+          (omega (arith, standing.calls, slice_get_within mid.seats.places.items i place is)))
         where
-          by : IsSeenTo wants mid.seats.agenda.later.items mid.seats.agenda i slot
-              → IsSeenTo wants new.list.items new.seats.agenda i slot
+          by : IsSeenTo wants mid.seats.agenda.later.items mid.seats.agenda i place
+              → IsSeenTo wants new.list.items new.seats.agenda i place
           by (inl l) = inl (subst (λ (x : List ℕ). IsFrom x 0 i) (sym k.list) l)
           by (inr (inl e)) = inr (inl (k.any ∙ e))
-          by (inr (inr r)) = inr (inr (subst (λ (l : Limits). RestsAt wants l.times.items i slot) (sym k.limits) r))
+          by (inr (inr r)) = inr (inr (subst (λ (l : Limits). RestsAt wants l.times.items i place) (sym k.limits) r))
 
           through : (call : Option Readiness) × (slice_get mid.seats.calls.items i ≡ Some call)
-              → IsSeenTo wants new.list.items new.seats.agenda i slot
-          through (call, e) = by (rests i slot is
+              → IsSeenTo wants new.list.items new.seats.agenda i place
+          through (call, e) = by (rests i place is
               (subst (λ (o : Option Readiness). slice_get mid.seats.calls.items i ≡ Some o) (none i call e) e))
 
 -- ---- the places that are called have their turn, and the others have one in which nothing is due
@@ -556,12 +581,12 @@ module _ {M S K : Type 0} (agrees : M → M → List Told → Type 0) (wants : M
       through (x, was) (y, now_is) (c, called) = by c x y called (h.each i x y c d was now_is called is)
 
   -- a place in which nothing is due, and a turn of it
-  pub still_place : (now : ℕ) (x : Place M S)
-      → ((slot : Slot M S) → x ≡ Open slot → is_due (wants slot.machine) slot.pace now ≡ false)
+  pub still_place : (now : ℕ) (x : Place M S) → IsStill agrees wants now x
       → HasPlaceTurn agrees wants did (record { read = false; write = false }) now x x []
   still_place now Empty rests = refl
   still_place now Broken rests = refl
-  still_place now (Open slot) rests = still_turn agrees wants did now slot (rests slot refl)
+  still_place now (Open slot) rests = still_turn agrees wants did now slot rests
+  still_place now (Pending watch) rests = (still_watch watch now rests, refl)
 
   -- each has had its turn by its call
   pub turns_by_call : (now : ℕ) (these : List ℕ) (first old new : Seats M S) (s t : K)
@@ -569,8 +594,8 @@ module _ {M S K : Type 0} (agrees : M → M → List Told → Type 0) (wants : M
       → old.places.items ≡ first.places.items
       → ((i : ℕ) (ready : Readiness) → slice_get first.calls.items i ≡ Some (Some ready)
       → slice_get old.calls.items i ≡ Some (Some ready))
-      → ((i : ℕ) (slot : Slot M S) → slice_get old.places.items i ≡ Some (Open slot)
-      → slice_get old.calls.items i ≡ Some None → is_due (wants slot.machine) slot.pace now ≡ false)
+      → ((i : ℕ) (place : Place M S) → slice_get old.places.items i ≡ Some place
+      → slice_get old.calls.items i ≡ Some None → IsStill agrees wants now place)
       → AreServed agrees wants did heard now these old new s t → AllAmong these old.calls.items
       → AtEachPlace heard (λ i x y lines. (call : Option Readiness) → slice_get first.calls.items i ≡ Some call
       → HasTurnByCall agrees wants did now call x y lines) first.places.items new.places.items s t
@@ -578,6 +603,7 @@ module _ {M S K : Type 0} (agrees : M → M → List Told → Type 0) (wants : M
     len = h.places ∙ ap (λ (l : List (Place M S)). length l) places;
     all = h.all;
     put = h.put;
+    within = subst (λ (l : List (Place M S)). AreLinesOfPlaces (length l) h.all) places h.within;
     each = λ i x y was is call called. through i x y (subst (λ (l : List (Place M S)). slice_get l i ≡ Some x)
         (sym places) was) is call
         called (place_of old.calls.items i (omega (arith, len, slice_get_within first.calls.items i call called)))
@@ -586,8 +612,7 @@ module _ {M S K : Type 0} (agrees : M → M → List Told → Type 0) (wants : M
     where
       still : (i : ℕ) (x : Place M S) → slice_get old.places.items i ≡ Some x → slice_get old.calls.items i ≡ Some None
           → HasPlaceTurn agrees wants did (record { read = false; write = false }) now x x []
-      still i x was none = still_place now x (λ slot e. rests i slot
-          (subst (λ (p : Place M S). slice_get old.places.items i ≡ Some p) e was) none)
+      still i x was none = still_place now x (rests i x was none)
 
       -- where it isn't called nothing was found of it
       uncalled : (i : ℕ) (call : Option Readiness) → slice_get first.calls.items i ≡ Some call

@@ -97,7 +97,7 @@ passed_not None since now t was h = refl
 passed_not (Some limit) since now t was h =
     late_not limit since now t (nat_le limit (t - since)) was (omega (arith, h)) refl
 
-over_not : (deadline : Option ℕ) (t : ℕ) → IsBefore t deadline → has_ended_by deadline t ≡ false
+pub over_not : (deadline : Option ℕ) (t : ℕ) → IsBefore t deadline → has_ended_by deadline t ≡ false
 over_not None t h = refl
 over_not (Some deadline) t h = by (nat_le deadline t) refl
   where
@@ -123,7 +123,7 @@ or_false : (a b : Bool) → a ≡ false → b ≡ false → (a || b) ≡ false
 or_false true b e f = absurd cc
 or_false false b e f = f
 
-and_false : (a b : Bool) → b ≡ false → (a && b) ≡ false
+pub and_false : (a b : Bool) → b ≡ false → (a && b) ≡ false
 and_false true b e = e
 and_false false b e = refl
 

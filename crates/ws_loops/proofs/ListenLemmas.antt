@@ -2,14 +2,16 @@
 use Rattle.std.proofs.Common.{◌≡◌, ◌∙◌, ◌+◌, ℕ, List, [], ◌∷◌, ◌++◌, Bool, true, false, length, MatchOption, Option}
 use Rattle.std.proofs.Common.{None, Some, ap, append_assoc}
 use Rattle.std.proofs.Common.{◌⊎◌, append-nil, inl, inr, replicate, subst, sym}
+use Rattle.std.proofs.lemmas.Bool.{false≢true}
 use Rattle.std.specs.List.{slice_get}
 use Rattle.std.proofs.lemmas.List.{replicate-append-replicate}
 use Rattle.ws_machines.specs.Machines.{Wants}
 use Rattle.ws_loops.specs.Deeds.{Deed}
 use Rattle.ws_loops.specs.Listeners.{AcceptDeed, CannotTake, HasAskedClient, HasClientBy, HasHeard, HasHeardFor}
-use Rattle.ws_loops.specs.Listeners.{HasHeardLast, IsPlaceToAsk}
+use Rattle.ws_loops.specs.Listeners.{HasArrived, HasHeardLast, IfRoundMadeFor, IsPlaceToAsk}
 use Rattle.ws_loops.specs.Listeners.AcceptDeed.{CouldNotGive, GaveClient, HadNoClient, LostClient}
 use Rattle.ws_loops.specs.Looping.{LoopValue}
+use Rattle.ws_loops.specs.Paces.{has_ended_by}
 use Rattle.ws_loops.specs.Places.{AreOccupied, IsFirstFree}
 use Rattle.ws_loops.specs.declared.listening.Arrival.{Arrival}
 use Rattle.ws_loops.specs.declared.listening.Arrival.TheVariants as arrival
@@ -96,3 +98,32 @@ heard_for did a b c l arrival.TooLate h (asked, why) = (heard_then did a b c [] 
     by : CannotTake l ⊎ HasHeardLast did b c (HadNoClient ∷ []) → CannotTake l ⊎ HasHeardLast did a c (HadNoClient ∷ [])
     by (inl none) = inl none
     by (inr k) = inr (heard_then did a b c (HadNoClient ∷ []) h k)
+
+-- what has arrived in front of the first round, where no time is waited for, or behind it
+module _ {M S W : Type 0} (wants : M → Wants) (did : S → S → List Deed → Type 0) (late until : Option ℕ) (now : ℕ)
+    (l : LoopValue M S) where
+  pub arrived_so : (later : ℕ) (happened : Arrival S W) (Q P : Type 0) → ((late ≡ None) × Q) ⊎ ((late ≡ until) × P)
+      → now ≡ later → HasArrived wants did late now l happened → HasArrived wants did until later l happened
+  arrived_so later (arrival.Ended at) Q P way same h = h
+  arrived_so later (arrival.Client at stream) Q P way same h = h
+  arrived_so later (arrival.Lost why) Q P way same h = tt
+  arrived_so later (arrival.NotAccepted why) Q P way same h = tt
+  arrived_so later arrival.TooLate Q P (inl (none, _)) same (h, over) =
+      absurd (false≢true (subst (λ (o : Option ℕ). has_ended_by o now ≡ true) none h))
+  arrived_so later arrival.TooLate Q P (inr (is, _)) same (h, over) = (
+    subst (λ (n : ℕ). has_ended_by until n ≡ true) same (subst (λ (o : Option ℕ). has_ended_by o now ≡ true) is h),
+    over,
+  )
+
+  pub round_made_for : (old tickets : List (Option ℕ)) (happened : Arrival S W) (P : Type 0) → l.tickets ≡ tickets
+      → ((late ≡ None) × (tickets ≡ old)) ⊎ ((late ≡ until) × P) → HasArrived wants did late now l happened
+      → IfRoundMadeFor old happened P
+  round_made_for old tickets (arrival.Ended at) P here (inl (none, same)) (over, (t, is, least)) =
+      inl (t, subst (λ (k : List (Option ℕ)). slice_get k at ≡ Some (Some t)) (here ∙ same) is)
+  round_made_for old tickets (arrival.Ended at) P here (inr (is, served)) h = inr served
+  round_made_for old tickets (arrival.Client at stream) P here way h = tt
+  round_made_for old tickets (arrival.Lost why) P here way h = tt
+  round_made_for old tickets (arrival.NotAccepted why) P here way h = tt
+  round_made_for old tickets arrival.TooLate P here (inl (none, same)) (h, over) =
+      absurd (false≢true (subst (λ (o : Option ℕ). has_ended_by o now ≡ true) none h))
+  round_made_for old tickets arrival.TooLate P here (inr (is, served)) h = served

@@ -1,17 +1,18 @@
 -- A list of which one place is changed, and two lists of which each place has to do with the other's.
 use Rattle.std.proofs.Common.{◌≡◌, ◌∙◌, ℕ, zero, suc, ◌+◌, ◌<◌, ◌≤◌, ◌⊎◌, ◌≢◌, List, [], ◌∷◌, ◌++◌, length, true, false}
-use Rattle.std.proofs.Common.{Option, Some, None, nat_eq, slice_set, take, refl, sym, ap, subst, inl, inr, arith}
+use Rattle.std.proofs.Common.{Bool, Option, Some, None, nat_eq, slice_set, take, refl, sym, ap, subst, inl, inr, arith}
 use Rattle.std.proofs.lemmas.Bool.{cases_eq, false≢true}
 use Rattle.std.proofs.lemmas.Bool.Decides.{eqb_tells}
 use Rattle.std.specs.List.{slice_get}
 use Rattle.std.proofs.lemmas.Option.{none-some, same_Some, slice_get_read, slice_get_within}
 use Rattle.std.proofs.Common.{is_some, slice_index_or}
 use Rattle.ws_loops.specs.Loops.{AtEachPlace, HasAll, IsFrom}
-use Rattle.ws_loops.specs.Places.{AreOccupied, IsFirstFree, StayTaken, is_empty}
+use Rattle.ws_loops.specs.Places.{AreOccupied, IsFirstFree, Kind, StayOfKind, is_empty, place_kind}
+use Rattle.ws_loops.specs.Places.Kind.{Nothing, Slotted, UnderWay}
 use Rattle.ws_loops.specs.declared.places.Place.{Place}
-use Rattle.ws_loops.specs.declared.places.Place.TheVariants.{Empty, Open, Broken}
-use Rattle.ws_loops.specs.Sinks.{lines_at}
-use Rattle.ws_loops.proofs.SinkLemmas.{lines_then, put_then}
+use Rattle.ws_loops.specs.declared.places.Place.TheVariants.{Empty, Open, Pending, Broken}
+use Rattle.ws_loops.specs.Sinks.{AreLinesOfPlaces, lines_at}
+use Rattle.ws_loops.proofs.SinkLemmas.{lines_then, put_then, within_then}
 
 module _ {X : Type 0} where
   pub get_set_same : (xs : List X) (i : ℕ) (y : X) → i < length xs → slice_get (slice_set xs i y) i ≡ Some y
@@ -38,6 +39,12 @@ module _ {X : Type 0} where
   set_same [] i x e = absurd (none-some x e)
   set_same (y ∷ xs) zero x e = ap (λ (z : X). z ∷ xs) (sym (same_Some y x e))
   set_same (y ∷ xs) (suc i) x e = ap (λ (l : List X). y ∷ l) (set_same xs i x e)
+
+  -- what is put twice is put once
+  pub set_twice : (xs : List X) (i : ℕ) (x y : X) → slice_set (slice_set xs i x) i y ≡ slice_set xs i y
+  set_twice [] i x y = refl
+  set_twice (z ∷ xs) zero x y = refl
+  set_twice (z ∷ xs) (suc i) x y = ap (λ (l : List X). z ∷ l) (set_twice xs i x y)
 
   -- there is something at each place of the list
   pub place_of : (xs : List X) (i : ℕ) → i < length xs → (x : X) × (slice_get xs i ≡ Some x)
@@ -141,6 +148,8 @@ then_at_each {X} heard R Q P trans old mid new s t u h k = record {
   len = k.len ∙ h.len;
   all = h.all ++ k.all;
   put = put_then heard s t u h.all k.all h.put k.put;
+  within = within_then (length old) h.all k.all h.within
+      (subst (λ (n : ℕ). AreLinesOfPlaces n k.all) h.len k.within);
   each = λ i x z was is. through i x z was is (place_of mid i (omega (arith, h.len, slice_get_within old i x was)));
 }
   where
@@ -159,43 +168,62 @@ each_so heard R Q old new s t f h = record {
   len = h.len;
   all = h.all;
   put = h.put;
+  within = h.within;
   each = λ i x y was is. f i x y (lines_at i h.all) was is (h.each i x y was is);
 }
 
--- ---- where something stood something stands
+-- ---- each place is of the kind that it was
+
+abbrev is_nothing : Kind → Bool
+is_nothing Nothing = true
+is_nothing Slotted = false
+is_nothing (UnderWay until) = false
+
+nothing_is : {kind : Kind} → Nothing ≡ kind → is_nothing kind ≡ false → ⊥
+nothing_is e other = false≢true (sym other ∙ ap is_nothing (sym e))
 
 module _ {M S : Type 0} where
-  pub taken_same : (places : List (Place M S)) → StayTaken places places
-  taken_same places = record {
+  pub kinds_same : (places : List (Place M S)) → StayOfKind places places
+  kinds_same places = record {
     len = refl;
-    each = λ i x y was is some. subst (λ (p : Place M S). is_empty p ≡ false) (same_Some x y (sym was ∙ is)) some;
+    each = λ i x y was is. ap place_kind (same_Some y x (sym is ∙ was));
   }
 
-  pub taken_then : (a b c : List (Place M S)) → StayTaken a b → StayTaken b c → StayTaken a c
-  taken_then a b c h k = record {
+  pub kinds_then : (a b c : List (Place M S)) → StayOfKind a b → StayOfKind b c → StayOfKind a c
+  kinds_then a b c h k = record {
     len = k.len ∙ h.len;
-    each = λ i x z was is some. through i x z was is some
-        (place_of b i (omega (arith, h.len, slice_get_within a i x was)));
+    each = λ i x z was is. through i x z was is (place_of b i (omega (arith, h.len, slice_get_within a i x was)));
   }
     where
-      through : (i : ℕ) (x z : Place M S) → slice_get a i ≡ Some x → slice_get c i ≡ Some z → is_empty x ≡ false
-          → (y : Place M S) × (slice_get b i ≡ Some y) → is_empty z ≡ false
-      through i x z was is some (y, mid) = k.each i y z mid is (h.each i x y was mid some)
+      through : (i : ℕ) (x z : Place M S) → slice_get a i ≡ Some x → slice_get c i ≡ Some z
+          → (y : Place M S) × (slice_get b i ≡ Some y) → place_kind z ≡ place_kind x
+      through i x z was is (y, mid) = k.each i y z mid is ∙ h.each i x y was mid
 
-  pub taken_set : (places : List (Place M S)) (at : ℕ) (x y : Place M S) → slice_get places at ≡ Some x
-      → (is_empty x ≡ false → is_empty y ≡ false) → StayTaken places (slice_set places at y)
-  taken_set places at x y there f = record {
+  pub kinds_set : (places : List (Place M S)) (at : ℕ) (x y : Place M S) → slice_get places at ≡ Some x
+      → place_kind y ≡ place_kind x → StayOfKind places (slice_set places at y)
+  kinds_set places at x y there same = record {
     len = length_set places at y;
-    each = λ i u v was is some. by i u v was some (set_cases places at y i v is);
+    each = λ i u v was is. by i u v was (set_cases places at y i v is);
   }
     where
-      by : (i : ℕ) (u v : Place M S) → slice_get places i ≡ Some u → is_empty u ≡ false
-          → ((i ≡ at) × (v ≡ y)) ⊎ ((i ≡ at → ⊥) × (slice_get places i ≡ Some v)) → is_empty v ≡ false
-      by i u v was some (inl (e, is_y)) = subst (λ (p : Place M S). is_empty p ≡ false) (sym is_y)
-          (f (subst (λ (p : Place M S). is_empty p ≡ false) (same_Some u x (sym was
-          ∙ (ap (λ (n : ℕ). slice_get places n) e ∙ there))) some))
-      by i u v was some (inr (_, is)) =
-          subst (λ (p : Place M S). is_empty p ≡ false) (same_Some u v (sym was ∙ is)) some
+      by : (i : ℕ) (u v : Place M S) → slice_get places i ≡ Some u
+          → ((i ≡ at) × (v ≡ y)) ⊎ ((i ≡ at → ⊥) × (slice_get places i ≡ Some v)) → place_kind v ≡ place_kind u
+      by i u v was (inl (e, is_y)) = ap place_kind is_y ∙ (same ∙ ap place_kind (same_Some x u (sym there
+          ∙ (ap (λ (n : ℕ). slice_get places n) (sym e) ∙ was))))
+      by i u v was (inr (_, is)) = ap place_kind (same_Some v u (sym is ∙ was))
+
+  -- where something stood, something stands
+  pub still_taken : (x y : Place M S) → place_kind y ≡ place_kind x → is_empty x ≡ false → is_empty y ≡ false
+  still_taken x Empty same some = by x same some
+    where
+      by : (p : Place M S) → Nothing ≡ place_kind p → is_empty p ≡ false → true ≡ false
+      by Empty e h = h
+      by (Open slot) e h = absurd (nothing_is e refl)
+      by (Pending watch) e h = absurd (nothing_is e refl)
+      by Broken e h = absurd (nothing_is e refl)
+  still_taken x (Open slot) same some = refl
+  still_taken x (Pending watch) same some = refl
+  still_taken x Broken same some = refl
 
   -- one more place in which something stands
   pub occupied_more : (places : List (Place M S)) (at : ℕ) (x : Place M S) → AreOccupied places at
@@ -210,6 +238,7 @@ module _ {M S : Type 0} where
   pub empty_is : (x : Place M S) → is_empty x ≡ true → x ≡ Empty
   empty_is Empty e = refl
   empty_is (Open slot) e = absurd (false≢true e)
+  empty_is (Pending watch) e = absurd (false≢true e)
   empty_is Broken e = absurd (false≢true e)
 
   -- this place is the first that is empty

@@ -1,5 +1,5 @@
 -- A round over the places: one place that is served, those that are not, and rounds one after the other.
-use Rattle.std.proofs.Common.{◌≡◌, ◌∙◌, ℕ, ◌+◌, ◌<◌, ◌≤◌, ◌⊎◌, ◌≢◌, true, false, nat_eq, List, []}
+use Rattle.std.proofs.Common.{◌≡◌, ◌∙◌, ℕ, ◌+◌, ◌<◌, ◌≤◌, ◌⊎◌, ◌≢◌, ◌||◌, ◌&&◌, not, Bool, true, false, nat_eq, List, []}
 use Rattle.std.proofs.Common.{◌∷◌}
 use Rattle.std.proofs.Common.{◌++◌, length, Option, Some, None, slice_set, refl, sym, ap, subst, arith, inl, inr}
 use Rattle.std.proofs.Common.{append-nil}
@@ -9,23 +9,26 @@ use Rattle.std.specs.List.{slice_get}
 use Rattle.std.proofs.lemmas.Option.{same_Some, slice_get_within}
 use Rattle.ws_machines.specs.Told.{Told}
 use Rattle.ws_machines.specs.Machines.{Wants}
-use Rattle.ws_loops.specs.Deeds.{Deed, Happened, all_shown}
+use Rattle.ws_loops.specs.Deeds.{Deed, Happened, all_moved, all_shown}
 use Rattle.ws_loops.specs.Deeds.Deed.{Woken}
-use Rattle.ws_loops.specs.Paces.{is_due}
-use Rattle.ws_loops.specs.Sinks.{lines_at, said_at}
-use Rattle.ws_loops.specs.Slots.{HasTurn}
+use Rattle.ws_loops.specs.Paces.{has_ended_by, is_due}
+use Rattle.ws_loops.specs.Sinks.{AreLinesOfPlaces, lines_at, said_at}
+use Rattle.ws_loops.specs.Slots.{HasBroken, HasTurn, share_len}
+use Rattle.ws_loops.specs.Watches.{AreWatched, WatchRound, is_watch_due, watched_by}
 use Rattle.ws_loops.specs.Loops.{AreServedTo, GiveTurns, HasGoneOn, HasItsRound, HasPlaceTurn, HasRound}
-use Rattle.ws_loops.specs.Loops.{HaveRun, IsAmong, IsServed, IsServedOrNot, ServedOnce}
+use Rattle.ws_loops.specs.Loops.{HaveRun, IsAmong, IsServed, IsServedInTime, IsServedOrNot, ServedOnce}
 use Rattle.ws_loops.specs.declared.places.Place.{Place}
-use Rattle.ws_loops.specs.declared.places.Place.TheVariants.{Empty, Open, Broken}
+use Rattle.ws_loops.specs.declared.places.Place.TheVariants.{Empty, Open, Pending, Broken}
 use Rattle.ws_loops.specs.declared.places.Seats.{Seats}
 use Rattle.ws_loops.specs.declared.poller.Readiness.{Readiness}
 use Rattle.ws_loops.specs.declared.poller.Wake.{Wake}
 use Rattle.ws_loops.specs.declared.slot.Slot.{Slot}
+use Rattle.ws_loops.specs.declared.watch.Watch.{Watch}
 use Rattle.ws_loops.proofs.PlaceLemmas.{each_so, length_set, place_of, set_cases}
 use Rattle.ws_loops.proofs.PlaceLemmas.{then_at_each}
-use Rattle.ws_loops.proofs.RunLemmas.{happened_within, nothing_happened, one_happened, shown_then, then_happened}
-use Rattle.ws_loops.proofs.SinkLemmas.{other_then, own_then, put_nothing, put_then}
+use Rattle.ws_loops.proofs.RunLemmas.{broken_then, broken_within, happened_within, nothing_happened, one_happened}
+use Rattle.ws_loops.proofs.RunLemmas.{shown_then, then_happened}
+use Rattle.ws_loops.proofs.SinkLemmas.{other_then, own_then, put_nothing, put_then, said_within, within_then}
 
 -- numbers that are given one after the other
 pub turns_still : (tickets : List (Option ℕ)) (given : ℕ) → GiveTurns tickets given tickets
@@ -59,6 +62,7 @@ module _ {M S K : Type 0} (agrees : M → M → List Told → Type 0) (wants : M
   none_served now these seats s = record {
     all = [];
     put = put_nothing heard s;
+    within = tt;
     turns = turns_still seats.tickets.items seats.agenda.given;
     given = omega arith;
     places = refl;
@@ -101,6 +105,8 @@ module _ {M S K : Type 0} (agrees : M → M → List Told → Type 0) (wants : M
           record {
             all = h.all ++ said_at at k.lines;
             put = put_then heard s t u h.all (said_at at k.lines) h.put k.put;
+            within = within_then (length a.places.items) h.all (said_at at k.lines) h.within
+                (subst (λ (l : List (List ℕ)). AreLinesOfPlaces (length a.places.items) (said_at at l)) (sym out.2) tt);
             turns = turns_then a.tickets.items b.tickets.items c.tickets.items a.agenda.given b.agenda.given h.given
                 h.turns k.turns;
             given = omega (arith, h.given, k.given);
@@ -140,6 +146,8 @@ module _ {M S K : Type 0} (agrees : M → M → List Told → Type 0) (wants : M
               record {
                 all = h.all ++ said_at at k.lines;
                 put = put_then heard s t u h.all (said_at at k.lines) h.put k.put;
+                within = within_then (length a.places.items) h.all (said_at at k.lines) h.within
+                    (said_within (length a.places.items) at k.lines (omega (arith, lt, h.places)));
                 turns = turns_then a.tickets.items b.tickets.items c.tickets.items a.agenda.given b.agenda.given
                     h.given h.turns k.turns;
                 given = omega (arith, h.given, k.given);
@@ -193,6 +201,20 @@ module _ {M S K : Type 0} (agrees : M → M → List Told → Type 0) (wants : M
                       later (inr (untouched, none, same, nothing)) =
                           inr (among_next these count i at is untouched (λ e. other (sym e)), none, same, nothing)
 
+-- ---- a connection that is under way
+
+wider_watched : (from mid to : ℕ) (x z : Watch) (rounds : List WatchRound) → from ≤ mid
+    → AreWatched mid x rounds to z → AreWatched from x rounds to z
+wider_watched from mid to x z [] h (k, same) = (omega (arith, h, k), same)
+wider_watched from mid to x z (r ∷ rounds) h (k, rest) = (omega (arith, h, k), rest)
+
+then_watched : (from mid to : ℕ) (x y z : Watch) (one other : List WatchRound) → AreWatched from x one mid y
+    → AreWatched mid y other to z → AreWatched from x (one ++ other) to z
+then_watched from mid to x y z [] other (h, same) k = wider_watched from mid to x z other h
+    (subst (λ (w : Watch). AreWatched mid w other to z) same k)
+then_watched from mid to x y z (r ∷ one) other (h, rest) k =
+    (h, then_watched r.at mid to (watched_by r.ready r.at x) y z one other rest k)
+
 -- ---- a run
 
 module _ {M S : Type 0} (agrees : M → M → List Told → Type 0) (wants : M → Wants) (did : S → S → List Deed → Type 0)
@@ -218,44 +240,107 @@ module _ {M S : Type 0} (agrees : M → M → List Told → Type 0) (wants : M �
         → now ≤ to → HasPlaceTurn agrees wants did ready now x y lines → HasGoneOn agrees wants did from to x y lines
     turn_goes_on ready from now to Empty Empty lines h k e = e
     turn_goes_on ready from now to Empty (Open y) lines h k e = absurd e
+    turn_goes_on ready from now to Empty (Pending y) lines h k e = absurd e
     turn_goes_on ready from now to Empty Broken lines h k e = absurd e
     turn_goes_on ready from now to Broken Empty lines h k e = absurd e
     turn_goes_on ready from now to Broken (Open y) lines h k e = absurd e
+    turn_goes_on ready from now to Broken (Pending y) lines h k e = absurd e
+    turn_goes_on ready from now to (Pending x) Empty lines h k e = absurd e
+    turn_goes_on ready from now to (Pending x) (Open y) lines h k e = absurd e
+    turn_goes_on ready from now to (Pending x) Broken lines h k e = absurd e
+    turn_goes_on ready from now to (Pending x) (Pending y) lines h k (same, none) = (
+      (record { at = now; ready = ready } ∷ [], (h, (k, same))),
+      none,
+    )
+    turn_goes_on ready from now to (Open x) (Pending y) lines h k e = absurd e
     turn_goes_on ready from now to Broken Broken lines h k e = e
     turn_goes_on ready from now to (Open x) Empty lines h k e = absurd e
-    turn_goes_on ready from now to (Open x) Broken lines h k e = tt
+    turn_goes_on ready from now to (Open x) Broken lines h k broken =
+        broken_within agrees wants did from now now to x lines h k broken
     turn_goes_on ready from now to (Open x) (Open y) lines h k turn =
         let all : List Happened = record { at = now; deed = Woken ready.read ready.write } ∷ turn.happened in
         (all, happened_within agrees wants did from now now to x y all h k turn.run, turn.shown)
+
+    -- and it was served by then
+    stirred_or_early : (stirred readable writable come : Bool)
+        → (not (stirred || (readable || (writable || come))) && come) ≡ false
+    stirred_or_early true readable writable come = refl
+    stirred_or_early false true writable come = refl
+    stirred_or_early false false true come = refl
+    stirred_or_early false false false true = refl
+    stirred_or_early false false false false = refl
+
+    pub turn_in_time : (ready : Readiness) (now : ℕ) (x y : Place M S) (lines : List (List ℕ))
+        → HasPlaceTurn agrees wants did ready now x y lines → IsServedInTime agrees wants did now y
+    turn_in_time ready now x Empty lines h = tt
+    turn_in_time ready now x Broken lines h = tt
+    turn_in_time ready now Empty (Open y) lines h = absurd h
+    turn_in_time ready now Broken (Open y) lines h = absurd h
+    turn_in_time ready now (Pending x) (Open y) lines h = absurd h
+    turn_in_time ready now (Open x) (Open y) lines turn = by turn.served
+      where
+        by : (is_due (wants y.machine) y.pace now ≡ false) ⊎ (all_moved turn.happened ≡ share_len)
+            → IsServedInTime agrees wants did now (Open y)
+        by (inl rests) = inl rests
+        by (inr whole) =
+            inr (x, record { at = now; deed = Woken ready.read ready.write } ∷ turn.happened, turn.run, omega (arith, whole))
+    turn_in_time ready now Empty (Pending y) lines h = absurd h
+    turn_in_time ready now Broken (Pending y) lines h = absurd h
+    turn_in_time ready now (Open x) (Pending y) lines h = absurd h
+    turn_in_time ready now (Pending x) (Pending y) lines (same, none) =
+        subst (λ (w : Watch). is_watch_due w now ≡ false) (sym same)
+        (stirred_or_early x.stirred ready.read ready.write (has_ended_by x.until now))
 
     -- one that is as it was has
     pub still_goes_on : (from to : ℕ) (x : Place M S) → from ≤ to → HasGoneOn agrees wants did from to x x []
     still_goes_on from to Empty le = refl
     still_goes_on from to Broken le = refl
     still_goes_on from to (Open slot) le = ([], nothing_happened agrees wants did from to slot le, refl)
+    still_goes_on from to (Pending watch) le = (([], (le, refl)), refl)
 
-    pub gone_then : (from mid to : ℕ) (x y z : Place M S) (one other : List (List ℕ))
+    pub gone_then : (from mid to : ℕ) → mid ≤ to → (x y z : Place M S) (one other : List (List ℕ))
         → HasGoneOn agrees wants did from mid x y one → HasGoneOn agrees wants did mid to y z other
         → HasGoneOn agrees wants did from to x z (one ++ other)
-    gone_then from mid to Empty Empty Empty one other h k =
+    gone_then from mid to le Empty Empty Empty one other h k =
         ap (λ (l : List (List ℕ)). l ++ other) h ∙ k
-    gone_then from mid to Empty Empty (Open z) one other h k = absurd k
-    gone_then from mid to Empty Empty Broken one other h k = absurd k
-    gone_then from mid to Empty (Open y) z one other h k = absurd h
-    gone_then from mid to Empty Broken z one other h k = absurd h
-    gone_then from mid to Broken Broken Broken one other h k =
+    gone_then from mid to le Empty Empty (Open z) one other h k = absurd k
+    gone_then from mid to le Empty Empty Broken one other h k = absurd k
+    gone_then from mid to le Empty Empty (Pending z) one other h k = absurd k
+    gone_then from mid to le Empty (Pending y) z one other h k = absurd h
+    gone_then from mid to le Empty (Open y) z one other h k = absurd h
+    gone_then from mid to le Empty Broken z one other h k = absurd h
+    gone_then from mid to le Broken Broken Broken one other h k =
         ap (λ (l : List (List ℕ)). l ++ other) h ∙ k
-    gone_then from mid to Broken Broken Empty one other h k = absurd k
-    gone_then from mid to Broken Broken (Open z) one other h k = absurd k
-    gone_then from mid to Broken Empty z one other h k = absurd h
-    gone_then from mid to Broken (Open y) z one other h k = absurd h
-    gone_then from mid to (Open x) Empty z one other h k = absurd h
-    gone_then from mid to (Open x) Broken Empty one other h k = absurd k
-    gone_then from mid to (Open x) Broken (Open z) one other h k = absurd k
-    gone_then from mid to (Open x) Broken Broken one other h k = tt
-    gone_then from mid to (Open x) (Open y) Empty one other h k = absurd k
-    gone_then from mid to (Open x) (Open y) Broken one other h k = tt
-    gone_then from mid to (Open x) (Open y) (Open z) one other (first, ran, said) (last, ran_on, said_on) = (
+    gone_then from mid to le Broken Broken Empty one other h k = absurd k
+    gone_then from mid to le Broken Broken (Open z) one other h k = absurd k
+    gone_then from mid to le Broken Broken (Pending z) one other h k = absurd k
+    gone_then from mid to le Broken (Pending y) z one other h k = absurd h
+    gone_then from mid to le Broken Empty z one other h k = absurd h
+    gone_then from mid to le Broken (Open y) z one other h k = absurd h
+    gone_then from mid to le (Open x) Empty z one other h k = absurd h
+    gone_then from mid to le (Open x) Broken Empty one other h k = absurd k
+    gone_then from mid to le (Open x) Broken (Open z) one other h k = absurd k
+    gone_then from mid to le (Open x) Broken (Pending z) one other h k = absurd k
+    gone_then from mid to le (Open x) Broken Broken one other h k =
+        subst (λ (l : List (List ℕ)). HasBroken agrees wants did from to x l)
+        (sym (ap (λ (l : List (List ℕ)). one ++ l) k ∙ append-nil one))
+        (broken_within agrees wants did from from mid to x one (omega arith) le h)
+    gone_then from mid to le (Open x) (Pending y) z one other h k = absurd h
+    gone_then from mid to le (Open x) (Open y) (Pending z) one other h k = absurd k
+    gone_then from mid to le (Pending x) Empty z one other h k = absurd h
+    gone_then from mid to le (Pending x) (Open y) z one other h k = absurd h
+    gone_then from mid to le (Pending x) Broken z one other h k = absurd h
+    gone_then from mid to le (Pending x) (Pending y) Empty one other h k = absurd k
+    gone_then from mid to le (Pending x) (Pending y) (Open z) one other h k = absurd k
+    gone_then from mid to le (Pending x) (Pending y) Broken one other h k = absurd k
+    gone_then from mid to le (Pending x) (Pending y) (Pending z) one other ((first, seen), none) ((last, seen_on), none_on) = (
+      (first ++ last, then_watched from mid to x y z first last seen seen_on),
+      ap (λ (l : List (List ℕ)). l ++ other) none ∙ none_on,
+    )
+    gone_then from mid to le (Open x) (Open y) Empty one other h k = absurd k
+    gone_then from mid to le (Open x) (Open y) Broken one other (first, ran, said) broken =
+        broken_then agrees wants did from mid to x y first one other ran said broken
+    gone_then from mid to le (Open x) (Open y) (Open z) one other (first, ran, said) (last, ran_on, said_on) = (
       first ++ last,
       then_happened agrees wants did from mid to x y z first last ran ran_on,
       shown_then first last ∙ (ap (λ (l : List (List ℕ)). l ++ all_shown last) said
@@ -286,14 +371,15 @@ module _ {M S K : Type 0} (agrees : M → M → List Told → Type 0) (wants : M
     len = refl;
     all = [];
     put = put_nothing heard s;
+    within = tt;
     each = λ i x y was is. subst (λ (z : Place M S). HasGoneOn agrees wants did from to x z [])
         (same_Some x y (sym was ∙ is)) (still_goes_on agrees wants did from to x le);
   }
 
   -- a run, and then another one
-  pub runs_then : (from mid to : ℕ) (a b c : List (Place M S)) (s t u : K)
+  pub runs_then : (from mid to : ℕ) → mid ≤ to → (a b c : List (Place M S)) (s t u : K)
       → HaveRun agrees wants did heard from mid a b s t → HaveRun agrees wants did heard mid to b c t u
       → HaveRun agrees wants did heard from to a c s u
-  runs_then from mid to a b c s t u h k = then_at_each heard (λ i. HasGoneOn agrees wants did from mid)
+  runs_then from mid to le a b c s t u h k = then_at_each heard (λ i. HasGoneOn agrees wants did from mid)
       (λ i. HasGoneOn agrees wants did mid to) (λ i. HasGoneOn agrees wants did from to)
-      (λ i x y z one other. gone_then agrees wants did from mid to x y z one other) a b c s t u h k
+      (λ i x y z one other. gone_then agrees wants did from mid to le x y z one other) a b c s t u h k

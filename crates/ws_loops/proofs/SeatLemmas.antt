@@ -20,12 +20,11 @@ use Rattle.ws_loops.specs.Limits.{IsTree}
 use Rattle.ws_loops.specs.Loops.{IsSeenTo, KeepsRest, RestsUncalled, RestsUntil}
 use Rattle.ws_loops.specs.declared.places.Agenda.{Agenda}
 use Rattle.ws_loops.specs.declared.places.Place.{Place}
-use Rattle.ws_loops.specs.declared.places.Place.TheVariants.{Open}
+use Rattle.ws_loops.specs.declared.places.Place.TheVariants.{Empty, Open, Pending, Broken}
 use Rattle.ws_loops.specs.declared.places.Seats.{Seats}
 use Rattle.ws_loops.specs.declared.poller.Readiness.{Readiness}
 use Rattle.ws_loops.specs.declared.rounds.Outlook.{Outlook}
 use Rattle.ws_loops.specs.declared.rounds.Outlook.TheVariants as outlook
-use Rattle.ws_loops.specs.declared.slot.Slot.{Slot}
 use Rattle.ws_loops.proofs.PlaceLemmas.{get_set_other, get_set_same, length_set, place_of, set_cases, set_same}
 use Rattle.ws_loops.proofs.RoundLemmas.{turns_still}
 
@@ -56,20 +55,23 @@ turns_given tickets at given none = record {
     by i t (inr (_, e)) = inl e
 
 module _ {M S : Type 0} (agrees : M → M → List Told → Type 0) (wants : M → Wants) where
-  -- nothing is due in a slot whose machine is done
-  pub done_rests : (slot : Slot M S) (time : Option ℕ) → (wants slot.machine).done ≡ true → RestsUntil wants time slot
-  done_rests slot time e t before = never_due (wants slot.machine).done (has_any_bytes (wants slot.machine).report
+  -- nothing is due in a place that has ended
+  pub over_rests : (place : Place M S) (time : Option ℕ) → IsPlaceOver wants place → RestsUntil wants time place
+  over_rests Empty time e = tt
+  over_rests Broken time e = tt
+  over_rests (Pending watch) time e = λ t before. never_due watch.stirred (has_ended_by watch.until t) e
+  over_rests (Open slot) time e = λ t before. never_due (wants slot.machine).done (has_any_bytes (wants slot.machine).report
       || ((wants slot.machine).end || (has_ended_by slot.pace.deadline t || (is_read_due
       (wants slot.machine) slot.pace t
       || (is_write_due (wants slot.machine) slot.pace t || (is_write_late (wants slot.machine) slot.pace t
       || is_wait_late (wants slot.machine) slot.pace t)))))) e
 
   -- where another place gets a time, one is seen to as before
-  pub kept_rests : (i at : ℕ) (slot : Slot M S) (old new : Agenda) → (i ≡ at → ⊥) → KeepsRest at old new
-      → IsSeenTo wants old.later.items old i slot → IsSeenTo wants new.later.items new i slot
-  kept_rests i at slot old new other k (inl listed) = inl (k.later i listed)
-  kept_rests i at slot old new other k (inr (inl all)) = inr (inl (k.all all))
-  kept_rests i at slot old new other k (inr (inr (time, is, rests))) = inr (inr (
+  pub kept_rests : (i at : ℕ) (place : Place M S) (old new : Agenda) → (i ≡ at → ⊥) → KeepsRest at old new
+      → IsSeenTo wants old.later.items old i place → IsSeenTo wants new.later.items new i place
+  kept_rests i at place old new other k (inl listed) = inl (k.later i listed)
+  kept_rests i at place old new other k (inr (inl all)) = inr (inl (k.all all))
+  kept_rests i at place old new other k (inr (inr (time, is, rests))) = inr (inr (
     time,
     subst (λ (l : List (Option ℕ)). slice_get l i ≡ Some time) (sym k.limits)
         (get_set_other old.limits.times.items at i k.time other ∙ is),
@@ -251,9 +253,9 @@ module _ {M S : Type 0} (agrees : M → M → List Told → Type 0) (wants : M �
       → new.calls.items ≡ slice_set old.calls.items at None
       → KeepsRest at old.agenda new.agenda → IsOutlook wants found y
       → IsNoted at found old.tickets.items old.agenda new.tickets.items new.agenda → RestsUncalled wants new
-  rests_noted old new at y found h lt placed called rest is noted i slot here call = by
-      (set_cases old.places.items at y i (Open slot)
-      (subst (λ (l : List (Place M S)). slice_get l i ≡ Some (Open slot)) placed here))
+  rests_noted old new at y found h lt placed called rest is noted i place here call = by
+      (set_cases old.places.items at y i place
+      (subst (λ (l : List (Place M S)). slice_get l i ≡ Some place) placed here))
       (set_cases old.calls.items at None i None
       (subst (λ (l : List (Option Readiness)). slice_get l i ≡ Some None) called call))
     where
@@ -261,41 +263,41 @@ module _ {M S : Type 0} (agrees : M → M → List Told → Type 0) (wants : M �
       time_there = subst (λ (l : List (Option ℕ)). slice_get l at ≡ Some rest.time) (sym rest.limits)
           (get_set_same old.agenda.limits.times.items at rest.time lt)
 
-      at_so : (f : Outlook) → IsOutlook wants f (Open slot)
+      at_so : (f : Outlook) → IsOutlook wants f place
           → IsNoted at f old.tickets.items old.agenda new.tickets.items new.agenda
-          → IsSeenTo wants new.agenda.later.items new.agenda at slot
-      at_so outlook.Ended over n = inr (inr (rest.time, time_there, done_rests slot rest.time over))
+          → IsSeenTo wants new.agenda.later.items new.agenda at place
+      at_so outlook.Ended over n = inr (inr (rest.time, time_there, over_rests place rest.time over))
       at_so outlook.Due goes (same, ended, given, inl kept) = inl kept
       at_so outlook.Due goes (same, ended, given, inr all) = inr (inl all)
       at_so (outlook.Rests time) (goes, rests) (same, ended, given, is_time) = inr (inr (time, is_time, rests))
 
-      by : ((i ≡ at) × (Open slot ≡ y)) ⊎ ((i ≡ at → ⊥) × (slice_get old.places.items i ≡ Some (Open slot)))
+      by : ((i ≡ at) × (place ≡ y)) ⊎ ((i ≡ at → ⊥) × (slice_get old.places.items i ≡ Some place))
           → ((i ≡ at) × ◌≡◌ {A = Option Readiness} None None) ⊎ ((i ≡ at → ⊥) × (slice_get old.calls.items i
           ≡ Some None))
-          → IsSeenTo wants new.agenda.later.items new.agenda i slot
-      by (inl (e, is_y)) _ = subst (λ (n : ℕ). IsSeenTo wants new.agenda.later.items new.agenda n slot) (sym e)
+          → IsSeenTo wants new.agenda.later.items new.agenda i place
+      by (inl (e, is_y)) _ = subst (λ (n : ℕ). IsSeenTo wants new.agenda.later.items new.agenda n place) (sym e)
           (at_so found (subst (λ (p : Place M S). IsOutlook wants found p) (sym is_y) is) noted)
       by (inr (other, was)) (inl (e, _)) = absurd (other e)
       by (inr (other, was)) (inr (_, none)) =
-          kept_rests i at slot old.agenda new.agenda other rest (h i slot was none)
+          kept_rests i at place old.agenda new.agenda other rest (h i place was none)
 
   -- and where its lines were not taken: it is called still
   pub rests_refused : (old new : Seats M S) (at : ℕ) (y : Place M S) (ready : Readiness) → RestsUncalled wants old
       → slice_get old.calls.items at ≡ Some (Some ready) → new.places.items ≡ slice_set old.places.items at y
       → new.calls.items ≡ old.calls.items → new.agenda ≡ old.agenda → RestsUncalled wants new
-  rests_refused old new at y ready h was placed called agenda i slot here call = by
-      (set_cases old.places.items at y i (Open slot)
-      (subst (λ (l : List (Place M S)). slice_get l i ≡ Some (Open slot)) placed here))
+  rests_refused old new at y ready h was placed called agenda i place here call = by
+      (set_cases old.places.items at y i place
+      (subst (λ (l : List (Place M S)). slice_get l i ≡ Some place) placed here))
     where
       call_was : slice_get old.calls.items i ≡ Some None
       call_was = subst (λ (l : List (Option Readiness)). slice_get l i ≡ Some None) called call
 
-      by : ((i ≡ at) × (Open slot ≡ y)) ⊎ ((i ≡ at → ⊥) × (slice_get old.places.items i ≡ Some (Open slot)))
-          → IsSeenTo wants new.agenda.later.items new.agenda i slot
+      by : ((i ≡ at) × (place ≡ y)) ⊎ ((i ≡ at → ⊥) × (slice_get old.places.items i ≡ Some place))
+          → IsSeenTo wants new.agenda.later.items new.agenda i place
       by (inl (e, _)) = absurd (none-some ready (same_Some None (Some ready) (sym call_was
           ∙ subst (λ (n : ℕ). slice_get old.calls.items n ≡ Some (Some ready)) (sym e) was)))
-      by (inr (_, there)) = subst (λ (a : Agenda). IsSeenTo wants a.later.items a i slot) (sym agenda)
-          (h i slot there call_was)
+      by (inr (_, there)) = subst (λ (a : Agenda). IsSeenTo wants a.later.items a i place) (sym agenda)
+          (h i place there call_was)
 
   -- the numbers that were given then
   pub turns_noted : (old new : Seats M S) (at : ℕ) (found : Outlook) → slice_get old.tickets.items at ≡ Some None
@@ -406,25 +408,25 @@ module _ {M S K : Type 0} (agrees : M → M → List Told → Type 0) (wants : M
       → slice_get old.places.items at ≡ Some x → IsTicketed old.tickets.items at
       → new.places.items ≡ old.places.items → new.calls.items ≡ slice_set old.calls.items at None
       → new.agenda ≡ old.agenda → RestsUncalled wants new
-  rests_ended x h standing there ticketed places calls agenda i slot here call = by
+  rests_ended x h standing there ticketed places calls agenda i place here call = by
       (set_cases old.calls.items at None i None
       (subst (λ (l : List (Option Readiness)). slice_get l i ≡ Some None) calls call))
     where
-      slot_there : slice_get old.places.items i ≡ Some (Open slot)
-      slot_there = subst (λ (l : List (Place M S)). slice_get l i ≡ Some (Open slot)) places here
+      place_there : slice_get old.places.items i ≡ Some place
+      place_there = subst (λ (l : List (Place M S)). slice_get l i ≡ Some place) places here
 
-      through : (done : (wants slot.machine).done ≡ true)
+      through : IsPlaceOver wants place
           → (time : Option ℕ) × (slice_get old.agenda.limits.times.items i ≡ Some time)
-          → IsSeenTo wants new.agenda.later.items new.agenda i slot
-      through done (time, is) = subst (λ (a : Agenda). IsSeenTo wants a.later.items a i slot) (sym agenda)
-          (inr (inr (time, is, done_rests agrees wants slot time done)))
+          → IsSeenTo wants new.agenda.later.items new.agenda i place
+      through over (time, is) = subst (λ (a : Agenda). IsSeenTo wants a.later.items a i place) (sym agenda)
+          (inr (inr (time, is, over_rests agrees wants place time over)))
 
       by : ((i ≡ at) × ◌≡◌ {A = Option Readiness} None None) ⊎ ((i ≡ at → ⊥) × (slice_get old.calls.items i
           ≡ Some None))
-          → IsSeenTo wants new.agenda.later.items new.agenda i slot
-      by (inl (e, _)) = through (standing.has_ended i (Open slot) slot_there
+          → IsSeenTo wants new.agenda.later.items new.agenda i place
+      by (inl (e, _)) = through (standing.has_ended i place place_there
           (subst (λ (n : ℕ). IsTicketed old.tickets.items n) (sym e) ticketed))
           (place_of old.agenda.limits.times.items i
-          (omega (arith, standing.limits, slice_get_within old.places.items i (Open slot) slot_there)))
-      by (inr (_, none)) = subst (λ (a : Agenda). IsSeenTo wants a.later.items a i slot) (sym agenda)
-          (h i slot slot_there none)
+          (omega (arith, standing.limits, slice_get_within old.places.items i place place_there)))
+      by (inr (_, none)) = subst (λ (a : Agenda). IsSeenTo wants a.later.items a i place) (sym agenda)
+          (h i place place_there none)

@@ -1,14 +1,11 @@
--- What a sink took: nothing, one list of lines after the other, and of all the lines those of one place.
-use Rattle.std.proofs.Common.{◌≡◌, ◌∙◌, ℕ, Bool, true, false, if◌then◌else◌, nat_eq, List, [], ◌∷◌, ◌++◌, refl, sym, ap}
+-- What a sink took: nothing, one list of lines after the other, and of all the lines those of one place; and of which
+-- places they are.
+use Rattle.std.proofs.Common.{◌≡◌, ◌∙◌, ◌<◌, ℕ, zero, suc, arith, Bool, true, false, if◌then◌else◌, nat_eq, List, [], ◌∷◌, ◌++◌, refl, sym, ap}
 use Rattle.std.proofs.Common.{subst, append_assoc, append-nil}
-use Rattle.std.specs.Bool.{⊤}
 use Rattle.std.proofs.lemmas.Bool.{eq-eqb}
 use Rattle.std.proofs.lemmas.Bool.Decides.{eqb_tells}
 use Rattle.std.proofs.Common.{◌⊎◌, ◌≢◌, inl, inr}
-use Rattle.ws_loops.specs.Sinks.{HasTakenLines, lines_at, said_at}
-use Rattle.ws_loops.specs.Slots.{AtNoMemory, PutsSome}
-use Rattle.ws_loops.specs.declared.serving.StepFault.{StepFault}
-use Rattle.ws_loops.specs.declared.serving.StepFault.TheVariants as fault
+use Rattle.ws_loops.specs.Sinks.{AreLinesOfPlaces, HasTakenLines, lines_at, said_at}
 
 module _ {K : Type 0} (heard : K → K → List (ℕ × List ℕ) → Type 0) where
   pub put_nothing : (a : K) → HasTakenLines heard a a []
@@ -64,14 +61,21 @@ pub other_then : (at i : ℕ) (all : List (ℕ × List ℕ)) (lines : List (List
 other_then at i all lines h = lines_then i all (said_at at lines)
     ∙ (ap (λ (l : List (List ℕ)). lines_at i all ++ l) (lines_other at i lines h) ∙ append-nil (lines_at i all))
 
--- where memory ran out, the lines that were taken before it come first
-pub put_until : {K F : Type 0} (heard : K → K → List (ℕ × List ℕ) → Type 0) (at : ℕ) (a b c : K)
-    (lines : List (List ℕ)) (why : StepFault F) → HasTakenLines heard a b (said_at at lines)
-    → AtNoMemory (PutsSome heard at b c (λ l. ⊤)) why → AtNoMemory (PutsSome heard at a c (λ l. ⊤)) why
-put_until heard at a b c lines fault.NoMemory h (more, k, _) = (
-  lines ++ more,
-  subst (λ (l : List (ℕ × List ℕ)). HasTakenLines heard a c l) (sym (said_then at lines more))
-      (put_then heard a b c (said_at at lines) (said_at at more) h k),
-  tt,
-)
-put_until heard at a b c lines (fault.NotTaken why) h k = tt
+-- lines of so many places, and then some more; and those of one of them
+pub within_then : (count : ℕ) (one other : List (ℕ × List ℕ)) → AreLinesOfPlaces count one
+    → AreLinesOfPlaces count other → AreLinesOfPlaces count (one ++ other)
+within_then count [] other h k = k
+within_then count (x ∷ one) other (lt, h) k = (lt, within_then count one other h k)
+
+pub said_within : (count at : ℕ) (lines : List (List ℕ)) → at < count → AreLinesOfPlaces count (said_at at lines)
+said_within count at [] lt = tt
+said_within count at (l ∷ lines) lt = (lt, said_within count at lines lt)
+
+-- of one place alone all lines are its own
+pub only_within : (all : List (ℕ × List ℕ)) → AreLinesOfPlaces 1 all → all ≡ said_at 0 (lines_at 0 all)
+only_within [] h = refl
+only_within ((at, l) ∷ all) (lt, h) = by at lt (only_within all h)
+  where
+    by : (n : ℕ) → n < 1 → all ≡ said_at 0 (lines_at 0 all) → (n, l) ∷ all ≡ said_at 0 (lines_at 0 ((n, l) ∷ all))
+    by zero less rest = ap (λ (r : List (ℕ × List ℕ)). (0, l) ∷ r) rest
+    by (suc n) less rest = absurd (omega (arith, less))

@@ -1,23 +1,21 @@
 -- A loop at first, which of its places is free, and which ended first.
-use Rattle.std.proofs.Common.{◌≡◌, ◌∙◌, ℕ, ◌<◌, ◌≤◌, List, length, Some, sym, ap}
-use Rattle.std.proofs.Common.{subst, arith}
-use Rattle.std.proofs.lemmas.Bool.{false≢true}
+use Rattle.std.proofs.Common.{◌≡◌, ◌∙◌, ℕ, ◌<◌, ◌≤◌, false, List, length, Some, sym, ap}
+use Rattle.std.proofs.Common.{subst, arith, inr}
 use Rattle.std.specs.List.{slice_get}
 use Rattle.std.proofs.lemmas.Option.{none-some, slice_get_within}
 use Rattle.ws_machines.specs.Told.{Told}
 use Rattle.ws_machines.specs.Machines.{Wants}
 use Rattle.ws_loops.specs.Limits.{IsTree}
 use Rattle.ws_loops.specs.Looping.{AreNewSeats}
-use Rattle.ws_loops.specs.Loops.{AreSeatsSound, HasAll, IsLoopSound}
+use Rattle.ws_loops.specs.Loops.{AreSeatsSound, HasAll, IsLoopSound, RestsUntil}
 use Rattle.ws_loops.specs.Places.{AreOccupied, IfOpen, IsFirstFree, IsFirstToEnd, IsOverAt, IsPlaceOver, NoneHasEnded}
-use Rattle.ws_loops.specs.Places.{is_empty}
+use Rattle.ws_loops.specs.Places.{NoneIsOver}
 use Rattle.ws_loops.specs.Slots.{IsAble}
 use Rattle.ws_loops.specs.declared.inside.Inside.{Inside}
 use Rattle.ws_loops.specs.declared.limits.Limits.{Limits}
 use Rattle.ws_loops.specs.declared.places.Place.{Place}
-use Rattle.ws_loops.specs.declared.places.Place.TheVariants.{Empty, Open}
+use Rattle.ws_loops.specs.declared.places.Place.TheVariants.{Empty}
 use Rattle.ws_loops.specs.declared.places.Seats.{Seats}
-use Rattle.ws_loops.specs.declared.slot.Slot.{Slot}
 use Rattle.ws_loops.proofs.PlaceLemmas.{place_of}
 
 module _ {M S : Type 0} where
@@ -40,9 +38,6 @@ module _ {M S : Type 0} (agrees : M → M → List Told → Type 0) (wants : M �
   not_over : (place : Place M S) → place ≡ Empty → IsPlaceOver wants place → ⊥
   not_over place e over = subst (λ (p : Place M S). IsPlaceOver wants p) e over
 
-  open_not_empty : (slot : Slot M S) → Open slot ≡ Empty → ⊥
-  open_not_empty slot e = false≢true (ap is_empty e)
-
   new_standing : (len : ℕ) (seats : Seats M S) → AreNewSeats len seats → AreSeatsSound agrees wants seats
   new_standing len seats h = record {
     calls = h.calls ∙ sym h.places;
@@ -62,7 +57,14 @@ module _ {M S : Type 0} (agrees : M → M → List Told → Type 0) (wants : M �
       → made.free ≡ 0 → IsLoopSound agrees wants made
   new_sound len made h all free = record {
     standing = new_standing len made.seats h;
-    rests = λ i slot is. absurd (open_not_empty slot (h.empty i (Open slot) is));
+    rests = λ i place is.
+        let (time, there) = place_of made.seats.agenda.limits.times.items i
+        (omega (arith, h.limits, h.places, slice_get_within made.seats.places.items i place is)) in
+        inr (inr (
+          time,
+          there,
+          subst (λ (p : Place M S). RestsUntil wants time p) (sym (h.empty i place is)) tt,
+        ));
     called = λ i ready is. absurd (none-some ready (sym (h.uncalled i (Some ready) is)));
     all = λ i lt. all i (omega (arith, lt, h.places));
     free = λ i place lt. absurd (omega (arith, lt, free));
@@ -76,6 +78,17 @@ module _ {M S : Type 0} (agrees : M → M → List Told → Type 0) (wants : M �
       let (place, there) = place_of seats.places.items at
       (omega (arith, h.tickets, slice_get_within seats.tickets.items at (Some t) is)) in
       (place, there, h.has_ended at place there (t, is))
+
+  -- where none has a number nothing has ended
+  pub none_over : (seats : Seats M S) → AreSeatsSound agrees wants seats → NoneHasEnded seats.tickets.items
+      → NoneIsOver wants seats.places.items
+  none_over seats h none i (place, is, over) =
+      let (t, e) = h.told i place is over in
+      none i t e
+
+  pub none_known : (seats : Seats M S) → AreSeatsSound agrees wants seats → seats.agenda.ended ≡ false
+      → NoneIsOver wants seats.places.items
+  none_known seats h e i (place, is, over) = h.any e i (h.told i place is over)
 
   -- it is known that none has
   pub ended_none : (old new : Seats M S) → AreSeatsSound agrees wants old → NoneHasEnded old.tickets.items

@@ -2,6 +2,7 @@ pub mod Deeds
 pub mod Sinks
 pub mod Paces
 pub mod Slots
+pub mod Watches
 pub mod Limits
 pub mod Places
 pub mod Loops

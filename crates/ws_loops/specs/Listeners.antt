@@ -4,8 +4,9 @@ use Rattle.std.specs.Prelude.{None, Some, slice_get}
 use Rattle.ws_machines.specs.Machines.{Wants}
 use Rattle.ws_loops.specs.Deeds.{Deed}
 use Rattle.ws_loops.specs.Looping.{LoopValue}
+use Rattle.ws_loops.specs.Loops.{IsTicketed}
 use Rattle.ws_loops.specs.Paces.{has_ended_by}
-use Rattle.ws_loops.specs.Places.{AreOccupied, IsOverAt, IsFirstFree, IsFirstToEnd}
+use Rattle.ws_loops.specs.Places.{AreOccupied, IsOverAt, IsFirstFree, IsFirstToEnd, NoneIsOver}
 use Rattle.ws_loops.specs.declared.listener.TryAccept.{TryAccept}
 use Rattle.ws_loops.specs.declared.listener.TryAccept.TheVariants as accept
 use Rattle.ws_loops.specs.declared.listening.Arrival.{Arrival}
@@ -65,7 +66,8 @@ HasHeardFor did old new l arrival.TooLate = HasHeardLast did old new []
 HasHeardFor did old new l happened = HasHeardLast did old new (last_heard happened)
 
 -- What holds by now where this has happened: what went on in this place has ended, and first of all; the client is for
--- the place that is free first, and its stream has done nothing; the time has come until which was waited.
+-- the place that is free first, and its stream has done nothing; the time has come until which was waited, and nothing
+-- has ended.
 abbrev pub HasArrived : {M S : Type 0} → {W : Type 0} → (M → Wants) → (S → S → List Deed → Type 0) → Option ℕ → ℕ
     → LoopValue M S → Arrival S W → Type 0
 HasArrived wants did until now l (arrival.Ended at) = IsOverAt wants l.places at × IsFirstToEnd l.tickets at
@@ -73,7 +75,16 @@ HasArrived wants did until now l (arrival.Client at stream) = IsFirstFree l.plac
     × (slice_get l.places at ≡ Some Empty) × did stream stream []
 HasArrived wants did until now l (arrival.Lost why) = ⊤
 HasArrived wants did until now l (arrival.NotAccepted why) = ⊤
-HasArrived wants did until now l arrival.TooLate = has_ended_by until now ≡ true
+HasArrived wants did until now l arrival.TooLate = (has_ended_by until now ≡ true) × NoneIsOver wants l.places
+
+-- This holds where a round was made before what went on in a place has ended, which had no number before, and before
+-- the time has come.
+abbrev pub IfRoundMadeFor : {S W : Type 0} → List (Option ℕ) → Arrival S W → Type 0 → Type 0
+IfRoundMadeFor tickets (arrival.Ended at) P = IsTicketed tickets at ⊎ P
+IfRoundMadeFor tickets (arrival.Client at stream) P = ⊤
+IfRoundMadeFor tickets (arrival.Lost why) P = ⊤
+IfRoundMadeFor tickets (arrival.NotAccepted why) P = ⊤
+IfRoundMadeFor tickets arrival.TooLate P = P
 
 -- that no client can be taken is told only where it wasn't before, and then it was
 abbrev pub IsDeafBehind : {S W : Type 0} → Bool → Arrival S W → Bool → Type 0

@@ -1,9 +1,10 @@
 -- A loop, as its users see it, and what has happened in it.
-use Rattle.std.specs.Prelude.{◌≡◌, ℕ, true, Bool, List, Option, None, Some, length, slice_get}
+use Rattle.std.specs.Prelude.{◌≡◌, ℕ, ◌⊎◌, ⊤, true, Bool, List, Option, None, Some, length, slice_get}
 use Rattle.ws_machines.specs.Machines.{Wants}
 use Rattle.ws_loops.specs.Limits.{AreAllNone, IsTree}
+use Rattle.ws_loops.specs.Loops.{IsTicketed}
 use Rattle.ws_loops.specs.Paces.{has_ended_by}
-use Rattle.ws_loops.specs.Places.{AreEmpty, IsOverAt, IsFirstToEnd}
+use Rattle.ws_loops.specs.Places.{AreEmpty, IsOverAt, IsFirstToEnd, NoneIsOver}
 use Rattle.ws_loops.specs.declared.inside.Inside.{Inside}
 use Rattle.ws_loops.specs.declared.looping.Ending.{Ending}
 use Rattle.ws_loops.specs.declared.looping.Ending.TheVariants as ending
@@ -26,11 +27,18 @@ loop_value inside = record {
 }
 
 -- What holds by now where this has happened: what went on in this place has ended, and first of all; the time has come
--- until which was waited; nothing stands in any place.
+-- until which was waited, and nothing has ended; nothing stands in any place.
 abbrev pub IsEnding : {M S : Type 0} → (M → Wants) → Option ℕ → ℕ → LoopValue M S → Ending → Type 0
 IsEnding wants until now l (ending.Ended at) = IsOverAt wants l.places at × IsFirstToEnd l.tickets at
-IsEnding wants until now l ending.TooLate = has_ended_by until now ≡ true
+IsEnding wants until now l ending.TooLate = (has_ended_by until now ≡ true) × NoneIsOver wants l.places
 IsEnding wants until now l ending.NoSlot = AreEmpty l.places
+
+-- This holds where a round was made before this has happened: none was only where what went on in the place had its
+-- number before, or nothing stands in any.
+abbrev pub IfRoundMade : List (Option ℕ) → Ending → Type 0 → Type 0
+IfRoundMade tickets (ending.Ended at) P = IsTicketed tickets at ⊎ P
+IfRoundMade tickets ending.TooLate P = P
+IfRoundMade tickets ending.NoSlot P = ⊤
 
 -- So many places in which nothing stands: none is called, none has ended, and nothing is due in any.
 pub record AreNewSeats {M S : Type 0} (len : ℕ) (seats : Seats M S) : Type 0 where

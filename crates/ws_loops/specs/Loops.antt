@@ -3,29 +3,33 @@ use Rattle.std.specs.Prelude.{◌≡◌, ℕ, ◌<◌, ◌≤◌, ◌⊎◌, ⊤
 use Rattle.std.specs.Prelude.{length, Option, Some, None, slice_get, slice_set}
 use Rattle.ws_machines.specs.Told.{Told}
 use Rattle.ws_machines.specs.Machines.{Wants}
-use Rattle.ws_loops.specs.Deeds.{Deed, Happened, all_shown}
-use Rattle.ws_loops.specs.Sinks.{HasTakenLines, lines_at, said_at}
+use Rattle.ws_loops.specs.Deeds.{Deed, Happened, all_moved, all_shown}
+use Rattle.ws_loops.specs.Sinks.{AreLinesOfPlaces, HasTakenLines, lines_at, said_at}
 use Rattle.ws_loops.specs.Limits.{IsTree}
 use Rattle.ws_loops.specs.Paces.{IsBefore, is_due}
 use Rattle.ws_loops.specs.Places.{AreOccupied, IsPlaceOver, IfOpen}
-use Rattle.ws_loops.specs.Slots.{HasRunBy, HasTurn, IsAble}
+use Rattle.ws_loops.specs.Slots.{HasBroken, HasRunBy, HasTurn, IsAble, share_len}
+use Rattle.ws_loops.specs.Watches.{HasBeenWatched, is_watch_due, watched_by}
 use Rattle.ws_loops.specs.declared.inside.Inside.{Inside}
 use Rattle.ws_loops.specs.declared.places.Agenda.{Agenda}
 use Rattle.ws_loops.specs.declared.places.Place.{Place}
-use Rattle.ws_loops.specs.declared.places.Place.TheVariants.{Empty, Open, Broken}
+use Rattle.ws_loops.specs.declared.places.Place.TheVariants.{Empty, Open, Pending, Broken}
 use Rattle.ws_loops.specs.declared.places.Seats.{Seats}
 use Rattle.ws_loops.specs.declared.poller.Mark.TheVariants as mark
 use Rattle.ws_loops.specs.declared.poller.Readiness.{Readiness}
 use Rattle.ws_loops.specs.declared.poller.Wake.{Wake}
+use Rattle.ws_loops.specs.declared.slot.Slot.{Slot}
 use Rattle.ws_loops.specs.declared.rounds.Outlook.{Outlook}
 use Rattle.ws_loops.specs.declared.rounds.Outlook.TheVariants as outlook
-use Rattle.ws_loops.specs.declared.slot.Slot.{Slot}
 
 -- ---- between rounds
 
--- nothing is due in a slot before this time, if its stream isn't found ready
-abbrev pub RestsUntil : {M S : Type 0} → (M → Wants) → Option ℕ → Slot M S → Type 0
-RestsUntil wants time slot = (t : ℕ) → IsBefore t time → is_due (wants slot.machine) slot.pace t ≡ false
+-- nothing is due in a place before this time, if its stream isn't found ready
+abbrev pub RestsUntil : {M S : Type 0} → (M → Wants) → Option ℕ → Place M S → Type 0
+RestsUntil wants time Empty = ⊤
+RestsUntil wants time (Open slot) = (t : ℕ) → IsBefore t time → is_due (wants slot.machine) slot.pace t ≡ false
+RestsUntil wants time (Pending watch) = (t : ℕ) → IsBefore t time → is_watch_due watch t ≡ false
+RestsUntil wants time Broken = ⊤
 
 -- this number is in the list, no earlier than at this place
 abbrev pub IsFrom : List ℕ → ℕ → ℕ → Type 0
@@ -57,36 +61,39 @@ pub record AreSeatsSound {M S : Type 0} (agrees : M → M → List Told → Type
   pub limits : length seats.agenda.limits.times.items ≡ length seats.places.items
   pub tree : IsTree seats.agenda.limits
 
--- nothing is due in the slot of this place before its time
-abbrev pub RestsAt : {M S : Type 0} → (M → Wants) → List (Option ℕ) → ℕ → Slot M S → Type 0
-RestsAt wants times i slot = (time : Option ℕ) × (slice_get times i ≡ Some time) × RestsUntil wants time slot
+-- nothing is due in this place before its time
+abbrev pub RestsAt : {M S : Type 0} → (M → Wants) → List (Option ℕ) → ℕ → Place M S → Type 0
+RestsAt wants times i place = (time : Option ℕ) × (slice_get times i ≡ Some time) × RestsUntil wants time place
 
 -- it is in this list, or nothing is due in it before its time; or something may be due in any place
-abbrev pub IsSeenTo : {M S : Type 0} → (M → Wants) → List ℕ → Agenda → ℕ → Slot M S → Type 0
-IsSeenTo wants list agenda i slot = IsFrom list 0 i ⊎ ((agenda.all ≡ true)
-    ⊎ RestsAt wants agenda.limits.times.items i slot)
+abbrev pub IsSeenTo : {M S : Type 0} → (M → Wants) → List ℕ → Agenda → ℕ → Place M S → Type 0
+IsSeenTo wants list agenda i place = IsFrom list 0 i ⊎ ((agenda.all ≡ true)
+    ⊎ RestsAt wants agenda.limits.times.items i place)
 
--- each slot that isn't called is seen to
+-- each place that isn't called is seen to
 abbrev pub RestsUncalled : {M S : Type 0} → (M → Wants) → Seats M S → Type 0
-RestsUncalled {M} {S} wants seats = (i : ℕ) (slot : Slot M S) → slice_get seats.places.items i ≡ Some (Open slot)
-    → slice_get seats.calls.items i ≡ Some None → IsSeenTo wants seats.agenda.later.items seats.agenda i slot
+RestsUncalled {M} {S} wants seats = (i : ℕ) (place : Place M S) → slice_get seats.places.items i ≡ Some place
+    → slice_get seats.calls.items i ≡ Some None → IsSeenTo wants seats.agenda.later.items seats.agenda i place
 
 -- ---- one place in a round
 
--- it had its turn: of a slot it is a turn, or memory ran out for it; its lines are these
+-- it had its turn: of a slot it is a turn, or memory ran out in that; a connection that is under way was watched; its
+-- lines are these
 abbrev pub HasPlaceTurn : {M S : Type 0} → (M → M → List Told → Type 0) → (M → Wants) → (S → S → List Deed → Type 0)
     → Readiness → ℕ → Place M S → Place M S → List (List ℕ) → Type 0
 HasPlaceTurn agrees wants did ready now Empty Empty lines = lines ≡ []
 HasPlaceTurn agrees wants did ready now Broken Broken lines = lines ≡ []
 HasPlaceTurn agrees wants did ready now (Open old) (Open new) lines = HasTurn agrees wants did ready now old new lines
-HasPlaceTurn agrees wants did ready now (Open old) Broken lines = ⊤
+HasPlaceTurn agrees wants did ready now (Open old) Broken lines = HasBroken agrees wants did now now old lines
+HasPlaceTurn agrees wants did ready now (Pending old) (Pending new) lines = (new ≡ watched_by ready now old)
+    × (lines ≡ [])
 HasPlaceTurn agrees wants did ready now _ _ lines = ⊥
 
 -- how it stands then
 abbrev pub IsOutlook : {M S : Type 0} → (M → Wants) → Outlook → Place M S → Type 0
 IsOutlook wants outlook.Ended place = IsPlaceOver wants place
 IsOutlook wants outlook.Due place = IsPlaceOver wants place → ⊥
-IsOutlook wants (outlook.Rests time) place = (IsPlaceOver wants place → ⊥) × IfOpen place (RestsUntil wants time)
+IsOutlook wants (outlook.Rests time) place = (IsPlaceOver wants place → ⊥) × RestsUntil wants time place
 
 -- this place is kept for later, or something may be due in any; the others stay so
 pub record IsKeptLater (at : ℕ) (old new : Agenda) : Type 0 where
@@ -167,6 +174,7 @@ pub record AreServedTo {M S K : Type 0} (agrees : M → M → List Told → Type
     (count : ℕ) (old new : Seats M S) (old_sink new_sink : K) : Type 0 where
   pub all : List (ℕ × List ℕ)
   pub put : HasTakenLines heard old_sink new_sink all
+  pub within : AreLinesOfPlaces (length old.places.items) all
   pub turns : GiveTurns old.tickets.items old.agenda.given new.tickets.items
   pub given : old.agenda.given ≤ new.agenda.given
   pub places : length new.places.items ≡ length old.places.items
@@ -188,13 +196,13 @@ AreServed agrees wants did heard now these old new old_sink new_sink =
 abbrev pub HasAll : List ℕ → ℕ → Type 0
 HasAll list count = (i : ℕ) → i < count → IsFrom list 0 i
 
--- Each slot is seen to. A place that is called is listed, or something may be due in any. None in front of the free
--- place is empty.
+-- Each place is seen to. One that is called is listed, or something may be due in any. None in front of the free place
+-- is empty.
 pub record IsLoopSound {M S : Type 0} (agrees : M → M → List Told → Type 0) (wants : M → Wants) (inside : Inside M S)
     : Type 0 where
   pub standing : AreSeatsSound agrees wants inside.seats
-  pub rests : (i : ℕ) (slot : Slot M S) → slice_get inside.seats.places.items i ≡ Some (Open slot)
-      → IsSeenTo wants inside.list.items inside.seats.agenda i slot
+  pub rests : (i : ℕ) (place : Place M S) → slice_get inside.seats.places.items i ≡ Some place
+      → IsSeenTo wants inside.list.items inside.seats.agenda i place
   pub called : (i : ℕ) (ready : Readiness) → slice_get inside.seats.calls.items i ≡ Some (Some ready)
       → IsFrom inside.list.items 0 i ⊎ (inside.seats.agenda.all ≡ true)
   pub all : HasAll inside.all.items (length inside.seats.places.items)
@@ -218,12 +226,14 @@ HasItsRound agrees wants did found now i old new lines =
     (IsPlaceOver wants old × (new ≡ old) × (lines ≡ []))
     ⊎ ((ready : Readiness) × CoversFound found i ready × HasPlaceTurn agrees wants did ready now old new lines)
 
--- No place is added or lost, and of each and the lines that the sink took of it, this holds.
+-- No place is added or lost, and of each and the lines that the sink took of it, this holds. It took lines of these
+-- places alone.
 pub record AtEachPlace {X K : Type 0} (heard : K → K → List (ℕ × List ℕ) → Type 0)
     (R : ℕ → X → X → List (List ℕ) → Type 0) (old new : List X) (old_sink new_sink : K) : Type 0 where
   pub len : length new ≡ length old
   pub all : List (ℕ × List ℕ)
   pub put : HasTakenLines heard old_sink new_sink all
+  pub within : AreLinesOfPlaces (length old) all
   pub each : (i : ℕ) (x y : X) → slice_get old i ≡ Some x → slice_get new i ≡ Some y → R i x y (lines_at i all)
 
 -- each place has had its round, by what was found of its stream
@@ -232,17 +242,37 @@ abbrev pub HasRound : {M S K : Type 0} → (M → M → List Told → Type 0) �
 HasRound agrees wants did heard found now old new old_sink new_sink =
     AtEachPlace heard (HasItsRound agrees wants did found now) old new old_sink new_sink
 
+-- ---- behind a round
+
+-- It was served by now. Of a slot nothing is due, or all of its share of bytes was moved by this very time; of a
+-- connection that is under way the time hasn't come, or it was stirred.
+abbrev pub IsServedInTime : {M S : Type 0} → (M → M → List Told → Type 0) → (M → Wants)
+    → (S → S → List Deed → Type 0) → ℕ → Place M S → Type 0
+IsServedInTime agrees wants did now Empty = ⊤
+IsServedInTime {M} {S} agrees wants did now (Open slot) = (is_due (wants slot.machine) slot.pace now ≡ false)
+    ⊎ ((first : Slot M S) × (happened : List Happened) × HasRunBy agrees wants did now first happened now slot
+    × (all_moved happened ≡ share_len))
+IsServedInTime agrees wants did now (Pending watch) = is_watch_due watch now ≡ false
+IsServedInTime agrees wants did now Broken = ⊤
+
+-- each of these places was
+abbrev pub AreServedInTime : {M S : Type 0} → (M → M → List Told → Type 0) → (M → Wants)
+    → (S → S → List Deed → Type 0) → ℕ → List (Place M S) → Type 0
+AreServedInTime {M} {S} agrees wants did now places = (i : ℕ) (place : Place M S) → slice_get places i ≡ Some place
+    → IsServedInTime agrees wants did now place
+
 -- ---- a run
 
--- Of a slot it has run since the first time, until the second, and its lines are those of what happened; or memory ran
--- out for it.
+-- Of a slot it has run since the first time, until the second, and its lines are those of what happened; or it has so
+-- far, and memory ran out for it. A connection that is under way was watched.
 abbrev pub HasGoneOn : {M S : Type 0} → (M → M → List Told → Type 0) → (M → Wants) → (S → S → List Deed → Type 0)
     → ℕ → ℕ → Place M S → Place M S → List (List ℕ) → Type 0
 HasGoneOn agrees wants did from to Empty Empty lines = lines ≡ []
 HasGoneOn agrees wants did from to Broken Broken lines = lines ≡ []
 HasGoneOn agrees wants did from to (Open old) (Open new) lines = (happened : List Happened)
     × HasRunBy agrees wants did from old happened to new × (all_shown happened ≡ lines)
-HasGoneOn agrees wants did from to (Open old) Broken lines = ⊤
+HasGoneOn agrees wants did from to (Open old) Broken lines = HasBroken agrees wants did from to old lines
+HasGoneOn agrees wants did from to (Pending old) (Pending new) lines = HasBeenWatched from to old new × (lines ≡ [])
 HasGoneOn agrees wants did from to _ _ lines = ⊥
 
 -- each place has

@@ -3,7 +3,7 @@ use Rattle.std.specs.Prelude.{◌≡◌, ℕ, ◌<◌, ◌≤◌, ⊤, Bool, tru
 use Rattle.std.specs.Prelude.{None, Some, slice_get}
 use Rattle.ws_machines.specs.Machines.{Wants}
 use Rattle.ws_loops.specs.declared.places.Place.{Place}
-use Rattle.ws_loops.specs.declared.places.Place.TheVariants.{Empty, Open, Broken}
+use Rattle.ws_loops.specs.declared.places.Place.TheVariants.{Empty, Open, Pending, Broken}
 use Rattle.ws_loops.specs.declared.slot.Slot.{Slot}
 
 -- ---- what stands in a place
@@ -12,17 +12,34 @@ use Rattle.ws_loops.specs.declared.slot.Slot.{Slot}
 abbrev pub IfOpen : {M S : Type 0} → Place M S → (Slot M S → Type 0) → Type 0
 IfOpen Empty P = ⊤
 IfOpen (Open slot) P = P slot
+IfOpen (Pending watch) P = ⊤
 IfOpen Broken P = ⊤
 
--- what went on in it has ended: its machine is done, or memory ran out for it
+-- what went on in it has ended: its machine is done, memory ran out for it, or the connection that is under way was
+-- stirred
 abbrev pub IsPlaceOver : {M S : Type 0} → (M → Wants) → Place M S → Type 0
 IsPlaceOver wants Empty = ⊥
 IsPlaceOver wants (Open slot) = (wants slot.machine).done ≡ true
+IsPlaceOver wants (Pending watch) = watch.stirred ≡ true
 IsPlaceOver wants Broken = ⊤
 
 -- and so at this one
 abbrev pub IsOverAt : {M S : Type 0} → (M → Wants) → List (Place M S) → ℕ → Type 0
 IsOverAt {M} {S} wants places at = (place : Place M S) × (slice_get places at ≡ Some place) × IsPlaceOver wants place
+
+-- nothing has ended in any
+abbrev pub NoneIsOver : {M S : Type 0} → (M → Wants) → List (Place M S) → Type 0
+NoneIsOver wants places = (i : ℕ) → IsOverAt wants places i → ⊥
+
+-- no slot stands in it, or stood in it: it is empty, or a connection is under way for it
+abbrev pub IsSlotless : {M S : Type 0} → Place M S → Type 0
+IsSlotless Empty = ⊤
+IsSlotless (Open slot) = ⊥
+IsSlotless (Pending watch) = ⊤
+IsSlotless Broken = ⊥
+
+abbrev pub IsSlotlessAt : {M S : Type 0} → List (Place M S) → ℕ → Type 0
+IsSlotlessAt {M} {S} places at = (place : Place M S) × (slice_get places at ≡ Some place) × IsSlotless place
 
 -- nothing stands in any
 abbrev pub AreEmpty : {M S : Type 0} → List (Place M S) → Type 0
@@ -33,6 +50,7 @@ AreEmpty {M} {S} places = (i : ℕ) (place : Place M S) → slice_get places i �
 abbrev pub is_empty : {M S : Type 0} → Place M S → Bool
 is_empty Empty = true
 is_empty (Open slot) = false
+is_empty (Pending watch) = false
 is_empty Broken = false
 
 -- something stands in each place in front of this one
@@ -40,11 +58,24 @@ abbrev pub AreOccupied : {M S : Type 0} → List (Place M S) → ℕ → Type 0
 AreOccupied {M} {S} places at = (i : ℕ) (place : Place M S) → i < at → slice_get places i ≡ Some place
     → is_empty place ≡ false
 
--- no place is added or lost, and where something stood something stands
-pub record StayTaken {M S : Type 0} (old new : List (Place M S)) : Type 0 where
+-- what kind of thing is in a place: nothing; a slot, also one for which memory ran out; or a connection that is under
+-- way, until when it is waited for
+pub data Kind : Type 0 where
+  Nothing : Kind
+  Slotted : Kind
+  UnderWay : Option ℕ → Kind
+
+abbrev pub place_kind : {M S : Type 0} → Place M S → Kind
+place_kind Empty = Nothing
+place_kind (Open slot) = Slotted
+place_kind (Pending watch) = UnderWay watch.until
+place_kind Broken = Slotted
+
+-- no place is added or lost, and each is of the kind that it was
+pub record StayOfKind {M S : Type 0} (old new : List (Place M S)) : Type 0 where
   pub len : length new ≡ length old
-  pub each : (i : ℕ) (x y : Place M S) → slice_get old i ≡ Some x → slice_get new i ≡ Some y → is_empty x ≡ false
-      → is_empty y ≡ false
+  pub each : (i : ℕ) (x y : Place M S) → slice_get old i ≡ Some x → slice_get new i ≡ Some y
+      → place_kind y ≡ place_kind x
 
 -- This place is the first that is empty, or the one behind all others where none is.
 pub record IsFirstFree {M S : Type 0} (places : List (Place M S)) (at : ℕ) : Type 0 where
@@ -63,8 +94,9 @@ abbrev pub IsFirstToEnd : List (Option ℕ) → ℕ → Type 0
 IsFirstToEnd tickets at = (t : ℕ) × (slice_get tickets at ≡ Some (Some t))
     × ((i u : ℕ) → slice_get tickets i ≡ Some (Some u) → t ≤ u)
 
--- Those that had ended keep their numbers, and those that ended since have later ones.
+-- No place is added or lost. Those that had ended keep their numbers, and those that ended since have later ones.
 pub record KeepTurns (old new : List (Option ℕ)) : Type 0 where
+  pub len : length new ≡ length old
   pub kept : (i t : ℕ) → slice_get old i ≡ Some (Some t) → slice_get new i ≡ Some (Some t)
   pub later : (i j t u : ℕ) → slice_get old i ≡ Some (Some t) → slice_get old j ≡ Some None
       → slice_get new j ≡ Some (Some u) → t ≤ u

@@ -1,5 +1,5 @@
 -- Lines that a sink took, each with the place of its machine.
-use Rattle.std.specs.Prelude.{ℕ, if◌then◌else◌, nat_eq, List, [], ◌∷◌, ◌++◌, map}
+use Rattle.std.specs.Prelude.{ℕ, ◌<◌, ⊤, if◌then◌else◌, nat_eq, List, [], ◌∷◌, ◌++◌, map}
 
 -- each list of what the sink took until the first state, followed by this, is one of what it took until the second
 abbrev pub HasTakenLines : {K : Type 0} → (K → K → List (ℕ × List ℕ) → Type 0) → K → K → List (ℕ × List ℕ) → Type 0
@@ -14,3 +14,8 @@ said_at at lines = map (λ l. (at, l)) lines
 abbrev pub lines_at : ℕ → List (ℕ × List ℕ) → List (List ℕ)
 lines_at at [] = []
 lines_at at (x ∷ heard) = if nat_eq x.0 at then x.1 ∷ lines_at at heard else lines_at at heard
+
+-- each of these lines is of one of so many places
+abbrev pub AreLinesOfPlaces : ℕ → List (ℕ × List ℕ) → Type 0
+AreLinesOfPlaces count [] = ⊤
+AreLinesOfPlaces count (x ∷ taken) = (x.0 < count) × AreLinesOfPlaces count taken

@@ -1,6 +1,6 @@
 -- A slot of a loop: a stream and the machine that is told of it, step by step and in a turn.
 use Rattle.std.specs.Prelude.{◌≡◌, ℕ, ◌+◌, ◌*◌, ◌<◌, ◌≤◌, ◌⊎◌, ⊤, true, false, if◌then◌else◌}
-use Rattle.std.specs.Prelude.{List, [], ◌∷◌, Option, Result, IfErr}
+use Rattle.std.specs.Prelude.{List, [], ◌∷◌, ◌++◌, length, Option, Result, IfErr}
 use Rattle.ws_machines.specs.Told.{Told}
 use Rattle.ws_machines.specs.Told.Told.{Came, DeadlinePassed, DirectionEnded, Ended, NothingCame, ReadFailed, Reported}
 use Rattle.ws_machines.specs.Told.Told.{Taken, WriteFailed}
@@ -85,6 +85,27 @@ abbrev pub HasRun : {M S : Type 0} → (M → M → List Told → Type 0) → (M
     → ℕ → ℕ → Slot M S → Slot M S → Type 0
 HasRun agrees wants did from to old new = (happened : List Happened)
     × HasRunBy agrees wants did from old happened to new
+
+-- ---- memory runs out for it
+
+-- Memory ran out for a machine that wanted this: no more of its lines were taken, or those that it wanted to be
+-- reported, of which it could not be told.
+abbrev pub AreItsLast : Wants → List (List ℕ) → Type 0
+AreItsLast wants lines = (lines ≡ []) ⊎ ((0 < length wants.report) × (lines ≡ wants.report ∷ []))
+
+-- It ran so far since the first time, until one that is no later than the second. Something was due in it then, and
+-- memory ran out for that. Its lines are those of what happened, and its last ones.
+pub record HasBroken {M S : Type 0} (agrees : M → M → List Told → Type 0) (wants : M → Wants)
+    (did : S → S → List Deed → Type 0) (from to : ℕ) (old : Slot M S) (lines : List (List ℕ)) : Type 0 where
+  pub happened : List Happened
+  pub at : ℕ
+  pub last : Slot M S
+  pub run : HasRunBy agrees wants did from old happened at last
+  pub before : at ≤ to
+  pub was_due : is_due (wants last.machine) last.pace at ≡ true
+  pub more : List (List ℕ)
+  pub its_last : AreItsLast (wants last.machine) more
+  pub shown : lines ≡ all_shown happened ++ more
 
 -- ---- a turn
 

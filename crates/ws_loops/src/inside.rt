@@ -5,8 +5,9 @@ ghost use Rattle.std.specs.Prelude.{◌≡◌, ◌<◌, ◌≤◌, length, true,
 ghost use Rattle.ws_loops.specs.Inside.{AreAllCalled, HasCalled, HasMarked, HasMarkedOne, HasServedCalled};
 ghost use Rattle.ws_loops.specs.Inside.{CoversBoth, HasTurnedOver, IsCalledOnce};
 ghost use Rattle.ws_loops.specs.Limits.{ComesLater, IsTree};
-ghost use Rattle.ws_loops.specs.Loops.{GiveTurns, HasRound, HaveRun, IsLoopSound};
+ghost use Rattle.ws_loops.specs.Loops.{AreServedInTime, GiveTurns, HasRound, HaveRun, IsLoopSound};
 ghost use Rattle.ws_loops.specs.Paces.{has_ended_by};
+ghost use Rattle.ws_loops.specs.Places.{StayOfKind};
 
 use crate::limits::soonest;
 use crate::line_sink::LineSink;
@@ -61,9 +62,13 @@ pub(crate) fn run_round<M: Machine + Drop, S: NonBlocking + Drop, P: Poller, K: 
     ensures turns { OnOk result (GiveTurns inside.old.seats.tickets.items inside.old.seats.agenda.given
         inside.new.seats.tickets.items) }
     ensures whole { IsLoopSound M.agrees M.wants inside.new }
+    ensures kinds { StayOfKind inside.old.seats.places.items inside.new.seats.places.items }
     ensures deaf { inside.new.door.deaf ≡ inside.old.door.deaf }
     ensures now { IfOk result (λ now. now ≡ P.time poller.new) }
     ensures nears { OnOk result (P.left poller.new < P.left poller.old) }
+    ensures later { OnOk result (P.time poller.old ≤ P.time poller.new) }
+    ensures served { OnOk result (AreServedInTime M.agrees M.wants S.did (P.time poller.new)
+        inside.new.seats.places.items) }
     ensures len { length room.new ≡ length room.old }
 {
     let end = wait_end(inside, poller.now(), until);
@@ -100,6 +105,7 @@ fn serve_found<M: Machine + Drop, S: NonBlocking + Drop, K: LineSink>(
     ensures turns { OnOk result (GiveTurns inside.old.seats.tickets.items inside.old.seats.agenda.given
         inside.new.seats.tickets.items) }
     ensures whole { IsLoopSound M.agrees M.wants inside.new }
+    ensures kinds { StayOfKind inside.old.seats.places.items inside.new.seats.places.items }
     ensures deaf { inside.new.door.deaf ≡ inside.old.door.deaf }
     ensures len { length room.new ≡ length room.old }
 {
@@ -183,6 +189,7 @@ fn serve<M: Machine + Drop, S: NonBlocking + Drop, K: LineSink>(
     ensures served { OnOk result (HasServedCalled M.agrees M.wants S.did K.heard now inside.old inside.new
         sink.old sink.new) }
     ensures whole { IsLoopSound M.agrees M.wants inside.new }
+    ensures kinds { StayOfKind inside.old.seats.places.items inside.new.seats.places.items }
     ensures door { inside.new.door ≡ inside.old.door }
     ensures len { length room.new ≡ length room.old }
 {
@@ -216,6 +223,7 @@ fn serve_all<M: Machine + Drop, S: NonBlocking + Drop, K: LineSink>(
     ensures served { OnOk result (HasServedCalled M.agrees M.wants S.did K.heard now inside.old inside.new
         sink.old sink.new) }
     ensures whole { IsLoopSound M.agrees M.wants inside.new }
+    ensures kinds { StayOfKind inside.old.seats.places.items inside.new.seats.places.items }
     ensures door { inside.new.door ≡ inside.old.door }
     ensures len { length room.new ≡ length room.old }
 {
@@ -247,6 +255,7 @@ fn serve_listed<M: Machine + Drop, S: NonBlocking + Drop, K: LineSink>(
     ensures served { OnOk result (HasServedCalled M.agrees M.wants S.did K.heard now inside.old inside.new
         sink.old sink.new) }
     ensures whole { IsLoopSound M.agrees M.wants inside.new }
+    ensures kinds { StayOfKind inside.old.seats.places.items inside.new.seats.places.items }
     ensures door { inside.new.door ≡ inside.old.door }
     ensures len { length room.new ≡ length room.old }
 {

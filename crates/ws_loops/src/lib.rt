@@ -22,6 +22,7 @@ mod poller;
 mod rounds;
 mod serving;
 mod slot;
+mod watch;
 
 pub use fault::LoopFault;
 pub use line_sink::{LineSink, NoLines};
@@ -33,3 +34,4 @@ pub use pace::Pace;
 pub use places::Place;
 pub use poller::{Mark, Poller, Readiness, WaitFailed, Wake};
 pub use slot::Slot;
+pub use watch::Watch;

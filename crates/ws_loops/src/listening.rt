@@ -2,10 +2,10 @@
 
 ghost use Rattle.std.specs.Prelude.{◌≡◌, ◌<◌, ◌≤◌, [], length, true, IfOk, IfSome, MatchOption, OnOk};
 ghost use Rattle.ws_loops.specs.Listeners.{CannotTake, HasArrived, HasAskedClient, HasClientBy, HasDeafened};
-ghost use Rattle.ws_loops.specs.Listeners.{HasHeardFor, HasHeardSo, IsDeafBehind, IsPlaceToAsk};
+ghost use Rattle.ws_loops.specs.Listeners.{HasHeardFor, HasHeardSo, IfRoundMadeFor, IsDeafBehind, IsPlaceToAsk};
 ghost use Rattle.ws_loops.specs.Looping.{AreSame, loop_value};
-ghost use Rattle.ws_loops.specs.Loops.{HaveRun, IsLoopSound};
-ghost use Rattle.ws_loops.specs.Places.{IsFirstFree, KeepTurns};
+ghost use Rattle.ws_loops.specs.Loops.{AreServedInTime, HaveRun, IsLoopSound};
+ghost use Rattle.ws_loops.specs.Places.{IsFirstFree, KeepTurns, StayOfKind};
 
 use crate::inside::{Door, Inside, has_come, run_round};
 use crate::line_sink::LineSink;
@@ -33,8 +33,8 @@ pub enum Arrival<S, W> {
 
 impl<M: Machine + Drop, S: NonBlocking + Drop> Loop<M, S> {
     /// Serves the slots until one of them has ended, or a client comes for whom a place is empty, or this time has
-    /// come. While no place is empty the listener isn't asked, and clients wait. Whoever calls takes what has ended out
-    /// of its place, or puts a slot with the client's stream into the place that is told.
+    /// come; all were served by then. While no place is empty the listener isn't asked, and clients wait. Whoever calls
+    /// takes what has ended out of its place, or puts a slot with the client's stream into the place that is told.
     pub fn run_listening<L: Listener<Client = S>, P: Poller, K: LineSink>(
         &mut self,
         poller: &mut P,
@@ -50,12 +50,16 @@ impl<M: Machine + Drop, S: NonBlocking + Drop> Loop<M, S> {
         ensures asked { IfOk result (λ arrival. HasHeardFor L.did listener.old listener.new self.new arrival) }
         ensures turns { OnOk result (KeepTurns self.old.tickets self.new.tickets) }
         ensures deaf { IfOk result (λ arrival. IsDeafBehind self.old.deaf arrival self.new.deaf) }
+        ensures later { OnOk result (P.time poller.old ≤ P.time poller.new) }
+        ensures kinds { StayOfKind self.old.places self.new.places }
+        ensures served { IfOk result (λ arrival. IfRoundMadeFor self.old.tickets arrival (AreServedInTime M.agrees
+            M.wants S.did (P.time poller.new) self.new.places)) }
     {
         listen_inside(&mut self.inside, poller, sink, listener, until, room)
     }
 }
 
-/// Serves the slots until something arrives.
+/// Serves the slots until something arrives. That this time has come counts behind a round alone.
 fn listen_inside<M: Machine + Drop, L: Listener, P: Poller, K: LineSink>(
     inside: &mut Inside<M, L::Client>,
     poller: &mut P,
@@ -75,13 +79,19 @@ fn listen_inside<M: Machine + Drop, L: Listener, P: Poller, K: LineSink>(
     ensures turns { OnOk result (KeepTurns inside.old.seats.tickets.items inside.new.seats.tickets.items) }
     ensures deaf { IfOk result (λ arrival. IsDeafBehind inside.old.door.deaf arrival inside.new.door.deaf) }
     ensures whole { IsLoopSound M.agrees M.wants inside.new }
+    ensures later { OnOk result (P.time poller.old ≤ P.time poller.new) }
+    ensures kinds { StayOfKind inside.old.seats.places.items inside.new.seats.places.items }
+    ensures served { IfOk result (λ arrival. IfRoundMadeFor inside.old.seats.tickets.items arrival
+        (AreServedInTime M.agrees M.wants L.Client.did (P.time poller.new) inside.new.seats.places.items)) }
 {
     let mut now = poller.now();
+    let mut late = None;
     loop {
-        match arrival_by(inside, listener, until, now) {
+        match arrival_by(inside, listener, late, now) {
             Some(arrival) => return Ok(arrival),
             None => now = run_round(inside, poller, sink, until, room)?,
         }
+        late = until;
     }
 }
 
@@ -100,8 +110,9 @@ fn arrival_by<M: Machine, L: Listener>(
     ensures deaf { HasDeafened inside.old.door.deaf result inside.new.door.deaf }
     ensures whole { IsLoopSound M.agrees M.wants inside.new }
 {
-    if let Some(at) = next_ended(&mut inside.seats) {
-        return Some(Arrival::Ended(at));
+    match next_ended(&mut inside.seats) {
+        Some(at) => return Some(Arrival::Ended(at)),
+        None => {}
     }
     let over = has_come(until, now);
     if let Some(arrival) = client_by(inside, listener, over) {

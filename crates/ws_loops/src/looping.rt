@@ -1,13 +1,14 @@
 //! The loop: it waits for all streams at once, and serves each slot in which something is due.
 
-ghost use Rattle.std.specs.Prelude.{◌≡◌, ◌<◌, length, true, false, Some, None, IfOk, IfSome, MatchOption, OnOk};
+ghost use Rattle.std.specs.Prelude.{◌≡◌, ◌<◌, ◌≤◌, length, true, false, Some, None, IfOk, IfSome, MatchOption, OnOk};
 ghost use Rattle.std.specs.Prelude.{slice_get, slice_set};
-ghost use Rattle.ws_loops.specs.Looping.{AreNewSeats, AreSame, IsEnding, IsSame, loop_value};
-ghost use Rattle.ws_loops.specs.Loops.{AreSeatsSound, HasAll, HaveRun, IsLoopSound};
+ghost use Rattle.ws_loops.specs.Looping.{AreNewSeats, AreSame, IfRoundMade, IsEnding, IsSame, loop_value};
+ghost use Rattle.ws_loops.specs.Loops.{AreSeatsSound, AreServedInTime, HasAll, HaveRun, IsLoopSound};
 ghost use Rattle.ws_loops.specs.Places.{AreEmpty, AreOccupied, IsOverAt, IfOpen, IsFirstFree, IsFirstToEnd, KeepTurns};
-ghost use Rattle.ws_loops.specs.Places.{NoneHasEnded};
+ghost use Rattle.ws_loops.specs.Places.{IsSlotlessAt, StayOfKind};
+ghost use Rattle.ws_loops.specs.Places.{NoneHasEnded, NoneIsOver};
 ghost use Rattle.ws_loops.specs.Slots.{IsAble};
-ghost use Rattle.ws_loops.specs.declared.places.Place.TheVariants.{Empty, Open};
+ghost use Rattle.ws_loops.specs.declared.places.Place.TheVariants.{Empty, Open, Pending};
 
 use crate::inside::{Door, Inside, has_come, run_round};
 use crate::limits::{new_limits, set_limit};
@@ -16,6 +17,7 @@ use crate::non_blocking::NonBlocking;
 use crate::places::{Agenda, Place, Seats, first_to_end, free_place, list_place, place_at};
 use crate::poller::{Mark, Poller, Readiness, Wake};
 use crate::slot::Slot;
+use crate::watch::Watch;
 use std::alloc::Global;
 use std::marker::Model;
 use std::mem;
@@ -50,8 +52,8 @@ impl<M: Machine, S> Model for Loop<M, S> {
 /// What has happened in a loop.
 #[derive(Clone, Copy)]
 pub enum Ending {
-    /// What went on in this place has ended: its machine is done, or memory ran out for it. It ended first of those
-    /// that were not taken.
+    /// What went on in this place has ended: its machine is done, memory ran out for it, or the connection that is
+    /// under way for it was stirred. It ended first of those that were not taken.
     Ended(usize),
     /// The time has come until which one was waited for.
     TooLate,
@@ -98,6 +100,32 @@ impl<M: Machine + Drop, S: NonBlocking + Drop> Loop<M, S> {
         put_inside(&mut self.inside, at, slot);
     }
 
+    /// A connection is under way for a place in which no slot stands. Where one was before, it is another one, or is
+    /// waited for anew.
+    pub fn watch(&mut self, at: usize, watch: Watch)
+        requires slotless { IsSlotlessAt self.old.places at }
+        ensures watched { self.new.places ≡ slice_set self.old.places at (Pending watch) }
+        ensures turns { KeepTurns (slice_set self.old.tickets at None) self.new.tickets }
+        ensures unnumbered { slice_get self.old.places at ≡ Some Empty →
+            slice_get self.old.tickets at ≡ Some None }
+        ensures deaf { self.new.deaf ≡ self.old.deaf }
+    {
+        watch_anew(&mut self.inside, at, watch);
+    }
+
+    /// Puts a slot into a place for which a connection was under way.
+    pub fn open(&mut self, at: usize, slot: Slot<M, S>)
+        requires slotless { IsSlotlessAt self.old.places at }
+        requires able { IsAble M.agrees M.wants slot.machine }
+        ensures put { self.new.places ≡ slice_set self.old.places at (Open slot) }
+        ensures turns { KeepTurns (slice_set self.old.tickets at None) self.new.tickets }
+        ensures unnumbered { slice_get self.old.places at ≡ Some Empty →
+            slice_get self.old.tickets at ≡ Some None }
+        ensures deaf { self.new.deaf ≡ self.old.deaf }
+    {
+        put_anew(&mut self.inside, at, slot);
+    }
+
     /// Takes what stands in a place out of it.
     pub fn take(&mut self, at: usize) -> Place<M, S>
         requires at { at < length self.old.places }
@@ -122,8 +150,8 @@ impl<M: Machine + Drop, S: NonBlocking + Drop> Loop<M, S> {
         };
     }
 
-    /// Serves the slots until one of them has ended, or this time has come. Whoever calls takes what has ended out of
-    /// its place, and may put another slot there.
+    /// Serves the slots until one of them has ended, or this time has come; all were served by then. Whoever calls
+    /// takes what has ended out of its place, and may put another slot there.
     pub fn run<P: Poller, K: LineSink>(
         &mut self,
         poller: &mut P,
@@ -137,6 +165,10 @@ impl<M: Machine + Drop, S: NonBlocking + Drop> Loop<M, S> {
         ensures ending { IfOk result (λ ending. IsEnding M.wants until (P.time poller.new) self.new ending) }
         ensures turns { OnOk result (KeepTurns self.old.tickets self.new.tickets) }
         ensures deaf { OnOk result (self.new.deaf ≡ self.old.deaf) }
+        ensures later { OnOk result (P.time poller.old ≤ P.time poller.new) }
+        ensures kinds { StayOfKind self.old.places self.new.places }
+        ensures served { IfOk result (λ ending. IfRoundMade self.old.tickets ending (AreServedInTime M.agrees M.wants
+            S.did (P.time poller.new) self.new.places)) }
     {
         run_inside(&mut self.inside, poller, sink, until, room)
     }
@@ -258,6 +290,56 @@ fn put_inside<M: Machine + Drop, S: Drop>(inside: &mut Inside<M, S>, at: usize, 
     list_place(&mut inside.list, &mut inside.seats.agenda.all, at);
 }
 
+/// A connection is under way for a place that is empty. One that is stirred has ended.
+fn watch_inside<M: Machine + Drop, S: Drop>(inside: &mut Inside<M, S>, at: usize, watch: Watch)
+    requires empty { slice_get inside.old.seats.places.items at ≡ Some Empty }
+    requires whole { IsLoopSound M.agrees M.wants inside.old }
+    ensures watched { inside.new.seats.places.items ≡ slice_set inside.old.seats.places.items at (Pending watch) }
+    ensures turns { KeepTurns inside.old.seats.tickets.items inside.new.seats.tickets.items }
+    ensures deaf { inside.new.door ≡ inside.old.door }
+    ensures whole { IsLoopSound M.agrees M.wants inside.new }
+{
+    inside.seats.places[at] = Place::Pending(watch);
+    if watch.stirred {
+        inside.seats.tickets[at] = Some(inside.seats.agenda.given);
+        inside.seats.agenda.given = inside.seats.agenda.given.saturating_add(1);
+        inside.seats.agenda.ended = true;
+        return;
+    }
+    set_limit(&mut inside.seats.agenda.limits, at, watch.until);
+}
+
+/// A connection is under way for a place in which no slot stands.
+fn watch_anew<M: Machine + Drop, S: Drop>(inside: &mut Inside<M, S>, at: usize, watch: Watch)
+    requires slotless { IsSlotlessAt inside.old.seats.places.items at }
+    requires whole { IsLoopSound M.agrees M.wants inside.old }
+    ensures watched { inside.new.seats.places.items ≡ slice_set inside.old.seats.places.items at (Pending watch) }
+    ensures turns { KeepTurns (slice_set inside.old.seats.tickets.items at None) inside.new.seats.tickets.items }
+    ensures unnumbered { slice_get inside.old.seats.places.items at ≡ Some Empty →
+        slice_get inside.old.seats.tickets.items at ≡ Some None }
+    ensures deaf { inside.new.door ≡ inside.old.door }
+    ensures whole { IsLoopSound M.agrees M.wants inside.new }
+{
+    let _ = empty_inside(inside, at);
+    watch_inside(inside, at, watch);
+}
+
+/// Puts a slot into a place in which none stands.
+fn put_anew<M: Machine + Drop, S: Drop>(inside: &mut Inside<M, S>, at: usize, slot: Slot<M, S>)
+    requires slotless { IsSlotlessAt inside.old.seats.places.items at }
+    requires able { IsAble M.agrees M.wants slot.machine }
+    requires whole { IsLoopSound M.agrees M.wants inside.old }
+    ensures put { inside.new.seats.places.items ≡ slice_set inside.old.seats.places.items at (Open slot) }
+    ensures turns { KeepTurns (slice_set inside.old.seats.tickets.items at None) inside.new.seats.tickets.items }
+    ensures unnumbered { slice_get inside.old.seats.places.items at ≡ Some Empty →
+        slice_get inside.old.seats.tickets.items at ≡ Some None }
+    ensures deaf { inside.new.door ≡ inside.old.door }
+    ensures whole { IsLoopSound M.agrees M.wants inside.new }
+{
+    let _ = empty_inside(inside, at);
+    put_inside(inside, at, slot);
+}
+
 /// Takes what stands in a place out of it. Clients may be asked for again.
 fn take_inside<M: Machine + Drop, S: Drop>(inside: &mut Inside<M, S>, at: usize) -> Place<M, S>
     requires at { at < length inside.old.seats.places.items }
@@ -273,6 +355,22 @@ fn take_inside<M: Machine + Drop, S: Drop>(inside: &mut Inside<M, S>, at: usize)
         asks: true,
         deaf: false,
     };
+    empty_inside(inside, at)
+}
+
+/// Takes what stands in a place out of it, and its number.
+fn empty_inside<M: Machine + Drop, S: Drop>(inside: &mut Inside<M, S>, at: usize) -> Place<M, S>
+    requires at { at < length inside.old.seats.places.items }
+    requires whole { IsLoopSound M.agrees M.wants inside.old }
+    ensures taken { slice_get inside.old.seats.places.items at ≡ Some result }
+    ensures empty { inside.new.seats.places.items ≡ slice_set inside.old.seats.places.items at Empty }
+    ensures turns { inside.new.seats.tickets.items ≡ slice_set inside.old.seats.tickets.items at None }
+    ensures able { IfOpen result (λ slot. IsAble M.agrees M.wants slot.machine) }
+    ensures unnumbered { slice_get inside.old.seats.places.items at ≡ Some Empty →
+        slice_get inside.old.seats.tickets.items at ≡ Some None }
+    ensures door { inside.new.door ≡ inside.old.door }
+    ensures whole { IsLoopSound M.agrees M.wants inside.new }
+{
     inside.seats.tickets[at] = None;
     inside.free = inside.free.min(at);
     set_limit(&mut inside.seats.agenda.limits, at, None);
@@ -288,7 +386,7 @@ fn take_place<M, S>(places: &mut Vec<Place<M, S>>, at: usize) -> Place<M, S>
     mem::replace(&mut places[at], Place::Empty)
 }
 
-/// Serves the slots until one of them has ended, or this time has come.
+/// Serves the slots until one of them has ended, or this time has come, which counts behind a round alone.
 fn run_inside<M: Machine + Drop, S: NonBlocking + Drop, P: Poller, K: LineSink>(
     inside: &mut Inside<M, S>,
     poller: &mut P,
@@ -304,13 +402,19 @@ fn run_inside<M: Machine + Drop, S: NonBlocking + Drop, P: Poller, K: LineSink>(
     ensures turns { OnOk result (KeepTurns inside.old.seats.tickets.items inside.new.seats.tickets.items) }
     ensures deaf { OnOk result (inside.new.door.deaf ≡ inside.old.door.deaf) }
     ensures whole { IsLoopSound M.agrees M.wants inside.new }
+    ensures later { OnOk result (P.time poller.old ≤ P.time poller.new) }
+    ensures kinds { StayOfKind inside.old.seats.places.items inside.new.seats.places.items }
+    ensures served { IfOk result (λ ending. IfRoundMade inside.old.seats.tickets.items ending
+        (AreServedInTime M.agrees M.wants S.did (P.time poller.new) inside.new.seats.places.items)) }
 {
     let mut now = poller.now();
+    let mut late = None;
     loop {
-        if let Some(ending) = ending_by(inside, until, now) {
+        if let Some(ending) = ending_by(inside, late, now) {
             return Ok(ending);
         }
         now = run_round(inside, poller, sink, until, room)?;
+        late = until;
     }
 }
 
@@ -325,8 +429,9 @@ fn ending_by<M: Machine, S>(
     ensures same { IsSame inside.old inside.new }
     ensures whole { IsLoopSound M.agrees M.wants inside.new }
 {
-    if let Some(at) = next_ended(&mut inside.seats) {
-        return Some(Ending::Ended(at));
+    match next_ended(&mut inside.seats) {
+        Some(at) => return Some(Ending::Ended(at)),
+        None => {}
     }
     if has_come(until, now) {
         return Some(Ending::TooLate);
@@ -340,8 +445,8 @@ fn ending_by<M: Machine, S>(
 /// The place that ended first of those that were not taken.
 pub(crate) fn next_ended<M: Machine, S>(seats: &mut Seats<M, S>) -> Option<usize>
     requires standing { AreSeatsSound M.agrees M.wants seats.old }
-    ensures found { IfSome result (λ at. IsOverAt M.wants seats.new.places.items at
-        × IsFirstToEnd seats.new.tickets.items at) }
+    ensures found { MatchOption result (NoneIsOver M.wants seats.new.places.items)
+        (λ at. IsOverAt M.wants seats.new.places.items at × IsFirstToEnd seats.new.tickets.items at) }
     ensures standing { AreSeatsSound M.agrees M.wants seats.new }
     ensures same { AreSame seats.old seats.new }
 {

@@ -7,6 +7,7 @@ ghost use Rattle.ws_loops.specs.Places.{AreOccupied, IsFirstFree, IsFirstToEnd, 
 use crate::limits::Limits;
 use crate::poller::Readiness;
 use crate::slot::Slot;
+use crate::watch::Watch;
 
 /// What stands in a place of a loop.
 #[derive(Drop)]
@@ -15,6 +16,8 @@ pub enum Place<M, S> {
     Empty,
     /// A slot.
     Open(Slot<M, S>),
+    /// No slot yet: a connection is under way for it.
+    Pending(Watch),
     /// Nothing any more: memory ran out for the slot that stood here.
     Broken,
 }
@@ -26,7 +29,7 @@ impl<M, S> Place<M, S> {
     {
         match self {
             Place::Empty => true,
-            Place::Open(_) | Place::Broken => false,
+            Place::Open(_) | Place::Pending(_) | Place::Broken => false,
         }
     }
 }

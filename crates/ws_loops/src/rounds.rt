@@ -1,11 +1,11 @@
 //! A round over the places of a loop: those that are called have their turn, and nothing is due in the others.
 
-ghost use Rattle.std.specs.Prelude.{◌≡◌, ◌<◌, ⊤, length, false, None, Some, IfOk, OnOk, IfErr, slice_get};
+ghost use Rattle.std.specs.Prelude.{◌≡◌, ◌<◌, [], length, false, None, Some, IfOk, OnOk, IfErr, slice_get};
 ghost use Rattle.ws_loops.specs.Limits.{IsTree};
 ghost use Rattle.ws_loops.specs.Loops.{AreServed, HasNoted, HasPlaceTurn, IsKeptLater, IsOutlook, AreSeatsSound};
 ghost use Rattle.ws_loops.specs.Loops.{RestsUncalled, ServedOnce};
-ghost use Rattle.ws_loops.specs.Places.{IsPlaceOver, IfOpen, StayTaken, is_empty};
-ghost use Rattle.ws_loops.specs.Slots.{HasServedShare, HasTurn, IfNoMemory, IfNotTaken, IsAble, PutsSome};
+ghost use Rattle.ws_loops.specs.Places.{IsPlaceOver, IfOpen, StayOfKind, place_kind};
+ghost use Rattle.ws_loops.specs.Slots.{HasBroken, HasServedShare, HasTurn, IfNoMemory, IfNotTaken, IsAble, PutsSome};
 
 use crate::limits::set_limit;
 use crate::line_sink::LineSink;
@@ -46,7 +46,7 @@ pub(crate) fn serve_these<M: Machine + Drop, S: NonBlocking + Drop, K: LineSink>
         sink.old sink.new) }
     ensures standing { AreSeatsSound M.agrees M.wants seats.new }
     ensures rests { RestsUncalled M.wants seats.new }
-    ensures taken { StayTaken seats.old.places.items seats.new.places.items }
+    ensures kinds { StayOfKind seats.old.places.items seats.new.places.items }
     ensures len { length room.new ≡ length room.old }
 {
     let mut next = 0;
@@ -81,7 +81,7 @@ fn serve_at<M: Machine + Drop, S: NonBlocking + Drop, K: LineSink>(
         sink.old sink.new) }
     ensures standing { AreSeatsSound M.agrees M.wants seats.new }
     ensures rests { RestsUncalled M.wants seats.new }
-    ensures taken { StayTaken seats.old.places.items seats.new.places.items }
+    ensures kinds { StayOfKind seats.old.places.items seats.new.places.items }
     ensures len { length room.new ≡ length room.old }
 {
     if at >= seats.calls.len() {
@@ -110,7 +110,7 @@ fn serve_called<M: Machine + Drop, S: NonBlocking + Drop, K: LineSink>(
         sink.old sink.new) }
     ensures standing { AreSeatsSound M.agrees M.wants seats.new }
     ensures rests { RestsUncalled M.wants seats.new }
-    ensures taken { StayTaken seats.old.places.items seats.new.places.items }
+    ensures kinds { StayOfKind seats.old.places.items seats.new.places.items }
     ensures len { length room.new ≡ length room.old }
 {
     if ticket_at(seats.tickets.as_slice(), at).is_some() {
@@ -138,7 +138,7 @@ fn serve_going<M: Machine + Drop, S: NonBlocking + Drop, K: LineSink>(
         sink.old sink.new) }
     ensures standing { AreSeatsSound M.agrees M.wants seats.new }
     ensures rests { RestsUncalled M.wants seats.new }
-    ensures taken { StayTaken seats.old.places.items seats.new.places.items }
+    ensures kinds { StayOfKind seats.old.places.items seats.new.places.items }
     ensures len { length room.new ≡ length room.old }
 {
     let outlook = serve_place(&mut seats.places[at], at, ready, sink, room, now)?;
@@ -195,11 +195,11 @@ fn serve_place<M: Machine + Drop, S: NonBlocking + Drop, K: LineSink>(
     ensures outlook { IfOk result (λ outlook. IsOutlook M.wants outlook place.new) }
     ensures able { IfOpen place.new (λ slot. IsAble M.agrees M.wants slot.machine) }
     ensures goes_on { IfErr result (λ why. IsPlaceOver M.wants place.new → ⊥) }
-    ensures taken { is_empty place.old ≡ false → is_empty place.new ≡ false }
+    ensures kinds { place_kind place.new ≡ place_kind place.old }
     ensures len { length room.new ≡ length room.old }
 {
     let Place::Open(slot) = place else {
-        return Ok(Outlook::Rests(None));
+        return Ok(serve_slotless(place, ready, now));
     };
     match serve_slot(slot, at, ready, sink, room, now) {
         Ok(()) => Ok(outlook_of(slot, now)),
@@ -208,6 +208,34 @@ fn serve_place<M: Machine + Drop, S: NonBlocking + Drop, K: LineSink>(
             *place = Place::Broken;
             Ok(Outlook::Ended)
         }
+    }
+}
+
+/// Gives a place its turn in which no slot stands, and says how it stands then: where a connection is under way for it,
+/// it has ended once it is stirred.
+fn serve_slotless<M: Machine, S: NonBlocking>(
+    place: &mut Place<M, S>,
+    ready: Readiness,
+    now: u64,
+) -> Outlook
+    requires slotless { IfOpen place.old (λ slot. ⊥) }
+    requires goes_on { IsPlaceOver M.wants place.old → ⊥ }
+    ensures turn { HasPlaceTurn M.agrees M.wants S.did ready now place.old place.new [] }
+    ensures outlook { IsOutlook M.wants result place.new }
+    ensures slotless { IfOpen place.new (λ slot. ⊥) }
+    ensures kinds { place_kind place.new ≡ place_kind place.old }
+{
+    match place {
+        Place::Pending(watch) => {
+            let watched = watch.woken(ready, now);
+            *watch = watched;
+            if watched.stirred {
+                Outlook::Ended
+            } else {
+                Outlook::Rests(watched.until)
+            }
+        }
+        Place::Empty | Place::Open(_) | Place::Broken => Outlook::Rests(None),
     }
 }
 
@@ -241,12 +269,15 @@ fn serve_slot<M: Machine, S: NonBlocking, K: LineSink>(
     ensures able { OnOk result (IsAble M.agrees M.wants slot.new.machine) }
     ensures refused { IfNotTaken result (IsAble M.agrees M.wants slot.new.machine
         × ((M.wants slot.new.machine).done ≡ false)) }
-    ensures put { IfNoMemory result (PutsSome K.heard at sink.old sink.new (λ lines. ⊤)) }
+    ensures put { IfNoMemory result (PutsSome K.heard at sink.old sink.new
+        (λ lines. HasBroken M.agrees M.wants S.did now now slot.old lines)) }
     ensures len { length room.new ≡ length room.old }
 {
     slot.pace = slot.pace.woken(ready);
-    serve_awake(slot, at, sink, room, now)?;
-    Ok(())
+    match serve_awake(slot, at, sink, room, now) {
+        Ok(()) => Ok(()),
+        Err(why) => Err(why),
+    }
 }
 
 /// Does what is due in a slot by now, until nothing is, or its share was moved.
@@ -264,7 +295,8 @@ fn serve_awake<M: Machine, S: NonBlocking, K: LineSink>(
     ensures able { OnOk result (IsAble M.agrees M.wants slot.new.machine) }
     ensures refused { IfNotTaken result (IsAble M.agrees M.wants slot.new.machine
         × ((M.wants slot.new.machine).done ≡ false)) }
-    ensures put { IfNoMemory result (PutsSome K.heard at sink.old sink.new (λ lines. ⊤)) }
+    ensures put { IfNoMemory result (PutsSome K.heard at sink.old sink.new
+        (λ lines. HasBroken M.agrees M.wants S.did now now slot.old lines)) }
     ensures len { length room.new ≡ length room.old }
 {
     let mut share = SHARE;

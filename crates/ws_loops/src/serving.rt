@@ -1,10 +1,11 @@
 //! One thing that is due in a slot is done, and its machine told of it.
 
-ghost use Rattle.std.specs.Prelude.{◌≡◌, ◌<◌, ◌≤◌, ◌∷◌, [], List, ℕ, ⊤, length, true, false, IfOk, OnOk};
+ghost use Rattle.std.specs.Prelude.{◌≡◌, ◌<◌, ◌≤◌, ◌∷◌, [], List, ℕ, length, true, false, IfOk, OnOk};
 ghost use Rattle.ws_machines.specs.Machines.{Extends, HasNext, IsRunning, MayBeTold, told_at};
 ghost use Rattle.ws_loops.specs.Paces.{has_any_bytes, is_due, has_ended_by, is_read_due, is_wait_late, is_write_due};
 ghost use Rattle.ws_loops.specs.Paces.{is_write_late, told_pace};
-ghost use Rattle.ws_loops.specs.Slots.{HasStepped, HasToldOne, IfNoMemory, IfNotTaken, IsAble, IsFree, PutsSome};
+ghost use Rattle.ws_loops.specs.Slots.{AreItsLast, PutsSome};
+ghost use Rattle.ws_loops.specs.Slots.{HasStepped, HasToldOne, IfNoMemory, IfNotTaken, IsAble, IsFree};
 
 use crate::line_sink::LineSink;
 use crate::non_blocking::{NonBlocking, TryRead, TryWrite};
@@ -40,7 +41,8 @@ pub(crate) fn step<M: Machine, S: NonBlocking, K: LineSink>(
     ensures share { IfOk result (λ moved. moved ≤ share) }
     ensures refused { IfNotTaken result (IsAble M.agrees M.wants slot.new.machine
         × ((M.wants slot.new.machine).done ≡ false)) }
-    ensures put { IfNoMemory result (PutsSome K.heard at sink.old sink.new (λ lines. ⊤)) }
+    ensures put { IfNoMemory result (PutsSome K.heard at sink.old sink.new
+        (λ lines. AreItsLast (M.wants slot.old.machine) lines)) }
     ensures len { length room.new ≡ length room.old }
 {
     if !slot.machine.to_report().is_empty() {
@@ -67,7 +69,8 @@ fn report<M: Machine, S: NonBlocking, K: LineSink>(
         (λ lines. HasStepped M.agrees M.wants S.did M.left now slot.old slot.new 0 lines)) }
     ensures refused { IfNotTaken result (IsAble M.agrees M.wants slot.new.machine
         × ((M.wants slot.new.machine).done ≡ false)) }
-    ensures put { IfNoMemory result (PutsSome K.heard at sink.old sink.new (λ lines. ⊤)) }
+    ensures put { IfNoMemory result (PutsSome K.heard at sink.old sink.new
+        (λ lines. AreItsLast (M.wants slot.old.machine) lines)) }
 {
     match sink.put(at, slot.machine.to_report()) {
         Ok(()) => match tell(slot, StreamEvent::Reported, now) {

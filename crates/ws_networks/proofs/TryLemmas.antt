@@ -1,75 +1,103 @@
 -- One address that is tried: how often it is asked how far the connection has come, and what comes of it.
-use Rattle.std.proofs.Common.{◌≡◌, ◌∙◌, ℕ, zero, suc, ◌≤◌, true, List, [], ◌∷◌, ◌++◌, replicate, refl, ap}
-use Rattle.std.proofs.Common.{append_assoc, arith, inl, inr, sym, subst, Some}
-use Rattle.std.proofs.lemmas.Bool.{false≢true}
-use Rattle.ws_networks.specs.Networks.{HasAdded, NetworkDeed, is_pending}
+use Rattle.std.proofs.Common.{◌≡◌, ◌∙◌, ℕ, zero, suc, ◌⊎◌, ◌≢◌, Bool, true, false, List, [], ◌∷◌, ◌++◌, replicate, refl}
+use Rattle.std.proofs.Common.{ap, append_assoc, inl, inr, nat_eq, sym, subst, Some}
+use Rattle.std.specs.Bool.{⊤}
+use Rattle.std.proofs.lemmas.Bool.Decides.{eqb_tells}
+use Rattle.ws_networks.specs.Networks.{AreDeedsOf, HasAdded, NetworkDeed, deeds_at, is_deed_of}
 use Rattle.ws_networks.specs.Networks.NetworkDeed.{Asked, Begun, NotBegun}
 use Rattle.ws_networks.specs.Bounds.{is_given_up}
-use Rattle.ws_networks.specs.Connecting.{HasAsked, HasTriedOne, connected_by, miss_of, only_place}
+use Rattle.ws_networks.specs.Connecting.{HasTriedOne, IfTried, tried_by}
 use Rattle.ws_networks.specs.declared.bounds.Bounds.{Bounds}
 use Rattle.ws_networks.specs.declared.network.Progress.{Progress}
 use Rattle.ws_networks.specs.declared.network.Progress.TheVariants as progress
-use Rattle.ws_networks.specs.declared.connecting.Connected.{Connected}
-use Rattle.ws_networks.specs.declared.connecting.Missed.TheVariants as miss
+use Rattle.ws_networks.specs.declared.dialing.Missed.TheVariants as miss
+use Rattle.ws_networks.specs.declared.dialing.Tried.TheVariants as tried
 use Rattle.ws_networks.proofs.AddLemmas.{added_then}
 
+-- ---- what was done for one place
+
+pub same_number : (n : ℕ) → nat_eq n n ≡ true
+same_number n = by (eqb_tells n n)
+  where
+    by : ((nat_eq n n ≡ true) × (n ≡ n)) ⊎ ((nat_eq n n ≡ false) × (n ≢ n)) → nat_eq n n ≡ true
+    by (inl same) = same.0
+    by (inr other) = absurd (other.1 refl)
+
+pub own_then : {A W : Type 0} (at : ℕ) (one other : List (NetworkDeed A W)) → AreDeedsOf at one → AreDeedsOf at other
+    → AreDeedsOf at (one ++ other)
+own_then at [] other h k = k
+own_then at (x ∷ one) other (is, h) k = (is, own_then at one other h k)
+
 -- one more of many that are alike
-one_more : {X : Type 0} (n : ℕ) (x : X) (rest : List X) → replicate n x ++ x ∷ rest ≡ x ∷ (replicate n x ++ rest)
+pub one_more : {X : Type 0} (n : ℕ) (x : X) (rest : List X) → replicate n x ++ x ∷ rest ≡ x ∷ (replicate n x ++ rest)
 one_more zero x rest = refl
 one_more {X} (suc n) x rest = ap (λ (l : List X). x ∷ l) (one_more n x rest)
 
-module _ {A W N : Type 0} (did : N → N → List (NetworkDeed A W) → Type 0) where
-  pub asked_once : (a b : N) (p : Progress W) → HasAdded did a b (Asked p ∷ []) → HasAsked did a b p
-  asked_once a b p h = (Asked p ∷ [], h, (0, refl))
+pub many_more : {X : Type 0} (n : ℕ) (x : X) → replicate n x ++ x ∷ [] ≡ replicate (suc n) x
+many_more zero x = refl
+many_more {X} (suc n) x = ap (λ (l : List X). x ∷ l) (many_more n x)
 
-  pub asked_again : (a b c : N) (p q : Progress W) → is_pending p ≡ true → HasAsked did a b p
-      → HasAdded did b c (Asked q ∷ []) → HasAsked did a c q
-  asked_again a b c progress.Made q e h k = absurd (false≢true e)
-  asked_again a b c (progress.Failed why) q e h k = absurd (false≢true e)
-  asked_again a b c progress.Pending q e (deeds, h, (n, is)) k = (
-    deeds ++ Asked q ∷ [],
-    added_then did a b c deeds (Asked q ∷ []) h k,
-    (
-      suc n,
-      ap (λ (l : List (NetworkDeed A W)). l ++ Asked q ∷ []) is
-          ∙ (append_assoc (replicate n (Asked progress.Pending)) (Asked progress.Pending ∷ []) (Asked q ∷ [])
-          ∙ one_more n (Asked progress.Pending) (Asked q ∷ [])),
-    ),
-  )
+-- ---- one address
 
-  -- it could not be begun
-  pub not_begun : (bounds : Bounds) (from now : ℕ) (old new : N) (address : A) (why : W) → from ≤ now
-      → HasAdded did old new (NotBegun address why ∷ [])
-      → HasTriedOne did bounds from now old new address (Some (miss.Failed why))
-  not_begun bounds from now old new address why h k =
-      (NotBegun address why ∷ [], k, (now, now, h, omega arith, omega arith, inl refl))
+-- it could not be begun
+pub not_begun : {A W N : Type 0} (S : Type 0) (did : N → N → List (NetworkDeed A W) → Type 0) (at : ℕ) (bounds : Bounds)
+    (now : ℕ) (old new : N) (address : A) (why : W) → HasAdded did old new (NotBegun at address why ∷ [])
+    → HasTriedOne {A = A} {S = S} {W = W} did at bounds now old new address (tried.Missed (miss.Failed why))
+not_begun S did at bounds now old new address why added = (
+  NotBegun at address why ∷ [],
+  added,
+  (same_number at, tt),
+  inl refl,
+)
 
-  -- it was begun, and then asked how far it has come
-  tried_by : {S : Type 0} (bounds : Bounds) (from since now : ℕ) (old mid new : N) (address : A) (stream : S)
-      (p : Progress W) → from ≤ since → since ≤ now → HasAdded did old mid (Begun only_place address ∷ []) → HasAsked did mid new p
-      → (is_pending p ≡ true → is_given_up bounds since now ≡ true)
-      → HasTriedOne did bounds from now old new address (miss_of (connected_by stream p))
-  tried_by bounds from since now old mid new address stream progress.Made h k begun (deeds, asked, are) late = (
-    Begun only_place address ∷ deeds,
-    added_then did old mid new (Begun only_place address ∷ []) deeds begun asked,
-    (deeds, refl, are),
-  )
-  tried_by bounds from since now old mid new address stream progress.Pending h k begun (deeds, asked, are) late = (
-    Begun only_place address ∷ deeds,
-    added_then did old mid new (Begun only_place address ∷ []) deeds begun asked,
-    (since, now, h, k, omega arith, ((deeds, refl, are), late refl)),
-  )
-  tried_by bounds from since now old mid new address stream (progress.Failed why) h k begun (deeds, asked, are) late = (
-    Begun only_place address ∷ deeds,
-    added_then did old mid new (Begun only_place address ∷ []) deeds begun asked,
-    (since, now, h, k, omega arith, inr (deeds, refl, are)),
-  )
+module _ {A S W N : Type 0} (did : N → N → List (NetworkDeed A W) → Type 0) (at : ℕ) (bounds : Bounds) (now : ℕ) where
+  -- it was begun, and asked for once
+  pub begun_so : (old mid new : N) (address : A) (stream : S) (p : Progress W) (late : Bool)
+      → HasAdded did old mid (Begun at address now ∷ []) → HasAdded did mid new (Asked at p ∷ [])
+      → late ≡ is_given_up bounds now now
+      → HasTriedOne did at bounds now old new address (tried_by stream p late)
+  begun_so old mid new address stream p late begun asked is = by p late asked is
+    where
+      begun_and : Progress W → List (NetworkDeed A W)
+      begun_and q = Begun at address now ∷ Asked at q ∷ []
 
-  -- what came of it
-  pub tried_so : {S : Type 0} (bounds : Bounds) (from since now : ℕ) (old mid new : N) (address : A) (stream : S)
-      (p : Progress W) → from ≤ since → since ≤ now → HasAdded did old mid (Begun only_place address ∷ []) → HasAsked did mid new p
-      → (is_pending p ≡ true → is_given_up bounds since now ≡ true) → (met : Connected S W) → met ≡ connected_by stream p
-      → HasTriedOne did bounds from now old new address (miss_of met)
-  tried_so {S} bounds from since now old mid new address stream p h k begun asked late met is = subst
-      (λ (m : Connected S W). HasTriedOne did bounds from now old new address (miss_of m)) (sym is)
-      (tried_by bounds from since now old mid new address stream p h k begun asked late)
+      both : (q : Progress W) → HasAdded did mid new (Asked at q ∷ []) → HasAdded did old new (begun_and q)
+      both q k = added_then did old mid new (Begun at address now ∷ []) (Asked at q ∷ []) begun k
+
+      own : (q : Progress W) → AreDeedsOf at (begun_and q)
+      own q = (same_number at, (same_number at, tt))
+
+      by : (q : Progress W) (b : Bool) → HasAdded did mid new (Asked at q ∷ []) → b ≡ is_given_up bounds now now
+          → HasTriedOne did at bounds now old new address (tried_by stream q b)
+      by progress.Made b k e = (
+        begun_and progress.Made,
+        both progress.Made k,
+        own progress.Made,
+        (Asked at progress.Made ∷ [], refl, (0, refl)),
+      )
+      by progress.Pending true k e = (
+        begun_and progress.Pending,
+        both progress.Pending k,
+        own progress.Pending,
+        ((Asked at progress.Pending ∷ [], refl, (0, refl)), sym e),
+      )
+      by progress.Pending false k e = (
+        begun_and progress.Pending,
+        both progress.Pending k,
+        own progress.Pending,
+        (Asked at progress.Pending ∷ [], refl, (0, refl)),
+      )
+      by (progress.Failed why) b k e = (
+        begun_and (progress.Failed why),
+        both (progress.Failed why) k,
+        own (progress.Failed why),
+        inr (Asked at (progress.Failed why) ∷ [], refl, (0, refl)),
+      )
+
+-- its stream has done nothing
+pub fresh_so : {S W : Type 0} (P : S → Type 0) (stream : S) (p : Progress W) (late : Bool) → P stream
+    → IfTried (tried_by stream p late) P
+fresh_so P stream progress.Made late h = h
+fresh_so P stream progress.Pending true h = tt
+fresh_so P stream progress.Pending false h = h
+fresh_so P stream (progress.Failed why) late h = tt

@@ -4,7 +4,7 @@ use Rattle.ws_loops.specs.Paces.{has_ended_by, passes_at, sooner}
 use Rattle.ws_networks.specs.declared.bounds.Bounds.{Bounds}
 use Rattle.ws_networks.specs.declared.bounds.Limits.{Limits}
 
--- those of a connection of which the first address is tried by now: the deadline passes so long from now
+-- those of a connection whose name is looked up by now: the deadline passes so long from now
 abbrev pub bounds_from : Limits → ℕ → Bounds
 bounds_from limits now = record { limit = limits.limit; until = passes_at limits.deadline now }
 

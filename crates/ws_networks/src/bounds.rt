@@ -9,12 +9,12 @@ ghost use Rattle.ws_networks.specs.Bounds.{bounds_from, is_given_up, gives_up_at
 pub struct Limits {
     /// So long an address may take no connection, and then nothing may come, or be taken of what is written.
     pub limit: Option<u64>,
-    /// So long a connection lasts at most, whatever comes, from when the first address is tried.
+    /// So long a connection lasts at most, whatever comes, from when its name is looked up.
     pub deadline: Option<u64>,
 }
 
 impl Limits {
-    /// Those of a connection of which the first address is tried at this time.
+    /// Those of a connection whose name is looked up at this time.
     pub fn from(self, now: u64) -> Bounds
         ensures { result ≡ bounds_from self now }
     {

@@ -3,7 +3,7 @@
 ghost use Rattle.std.specs.Prelude.{◌≡◌, ◌∷◌, [], nat_eq, if◌then◌else◌, IfOk, MatchResult};
 ghost use Rattle.ws_networks.specs.Listening.{CannotListen, HasAddedSome, Listens, NoneBound, OneBound};
 
-use crate::connecting::address_at;
+use crate::dialing::address_at;
 use crate::network::Network;
 use std::alloc::Global;
 

@@ -1,18 +1,20 @@
 //! One machine that is run over a connection to a name.
 
-ghost use Rattle.std.specs.Prelude.{◌≡◌, ◌<◌, ◌∷◌, [], length, IfOk, true};
+ghost use Rattle.std.specs.Prelude.{◌≡◌, ◌<◌, ◌∷◌, [], length, IfOk};
 ghost use Rattle.ws_machines.specs.Machines.{HasNext};
-ghost use Rattle.ws_loops.specs.Slots.{HasRun, IsAble};
-ghost use Rattle.ws_loops.specs.declared.places.Place.TheVariants.{Open};
-ghost use Rattle.ws_networks.specs.Meetings.{HasEndedSince, HasMet};
+ghost use Rattle.ws_networks.specs.Meetings.{HasMet, HasMetAddresses, HasMetShowing};
 
-use crate::bounds::{Bounds, Limits};
-use crate::connecting::{Connected, Missed, ONLY, connect};
+use crate::bounds::Limits;
+use crate::dialing::Missed;
 use crate::network::Network;
+use crate::network_loop::{Attempt, NetworkLoop, Taken};
 use std::alloc::Global;
 use ws_base::NoMemory;
-use ws_loops::{Loop, LoopFault, NoLines, NonBlocking, Pace, Place, Poller, Slot};
+use ws_loops::{LineSink, Poller, Slot};
 use ws_machines::Machine;
+
+/// The place of a connection that is waited for by itself.
+const ONLY: usize = 0;
 
 /// What came of a machine that was to be run over a connection.
 #[derive(Drop)]
@@ -23,102 +25,85 @@ pub enum Met<E, S, W> {
     NotMade(Missed<W>),
 }
 
-/// Connects to a name, and runs a machine over the connection until it is done.
-pub fn run_at<M: Machine + Drop, N: Network, P: Poller>(
+/// What is to be done at a name: a machine that is to be run over a connection to it, within these limits.
+#[derive(Drop)]
+pub struct Errand<'a, M> {
+    pub name: &'a str,
+    pub machine: M,
+    pub limits: Limits,
+}
+
+/// Connects to a name, and runs a machine over the connection until it is done. The sink takes its lines, each before
+/// anything else is done of what the machine wants.
+pub fn run_at<M: Machine + Drop, N: Network, P: Poller, K: LineSink>(
     alloc: Global,
     network: &mut N,
     poller: &mut P,
-    name: &str,
-    machine: M,
-    limits: Limits,
+    sink: &mut K,
+    errand: Errand<'_, M>,
     room: &mut [u8],
-) -> Result<Met<M::End, N::Stream, N::Miss>, LoopFault>
+) -> Result<Met<M::End, N::Stream, N::Miss>, K::Fault>
     requires room { 0 < length room.old }
-    requires untold { M.agrees machine machine [] }
-    requires goes_on { HasNext (M.wants machine) }
-    ensures met { IfOk result (λ met. HasMet M.agrees M.wants M.gives N.Stream.did N.did limits (P.time poller.old)
-        (P.time poller.new) network.old network.new name.now machine met) }
+    requires untold { M.agrees errand.machine errand.machine [] }
+    requires goes_on { HasNext (M.wants errand.machine) }
+    ensures met { IfOk result (λ met. HasMet M.agrees M.wants M.gives N.Stream.did N.did errand.entry.limits
+        (P.time poller.old) (P.time poller.new) network.old network.new errand.entry.name.now
+        errand.entry.machine met) }
+    ensures shows { IfOk result (λ met. HasMetShowing K.heard sink.old sink.new M.agrees M.wants M.gives N.Stream.did
+        N.did errand.entry.limits (P.time poller.old) (P.time poller.new) network.old network.new errand.entry.name.now
+        errand.entry.machine met) }
 {
+    let Errand {
+        name,
+        machine,
+        limits,
+    } = errand;
     let bounds = limits.from(poller.now());
-    let met = connect(alloc, network, poller, name, bounds)?;
-    match met {
-        Connected::NotMade(why) => Ok(Met::NotMade(why)),
-        Connected::Made(stream) => {
-            let ran = run_made(alloc, poller, machine, stream, bounds, room)?;
-            let (end, stream) = ran;
+    match network.look_up(alloc, name) {
+        Ok(addresses) => {
+            let attempt = Attempt {
+                addresses,
+                bounds,
+                machine,
+            };
+            let met = meet(alloc, network, poller, sink, attempt, room)?;
+            Ok(met)
+        }
+        Err(why) => Ok(Met::NotMade(Missed::Failed(why))),
+    }
+}
+
+/// Connects to the first of these addresses that takes a connection, and runs a machine over it until it is done.
+fn meet<M: Machine + Drop, N: Network, P: Poller, K: LineSink>(
+    alloc: Global,
+    network: &mut N,
+    poller: &mut P,
+    sink: &mut K,
+    attempt: Attempt<M, N::Address>,
+    room: &mut [u8],
+) -> Result<Met<M::End, N::Stream, N::Miss>, K::Fault>
+    requires room { 0 < length room.old }
+    requires untold { M.agrees attempt.machine attempt.machine [] }
+    requires goes_on { HasNext (M.wants attempt.machine) }
+    ensures met { IfOk result (λ met. HasMetAddresses K.heard sink.old sink.new M.agrees M.wants M.gives N.Stream.did
+        N.did attempt.bounds (P.time poller.old) (P.time poller.new) network.old network.new attempt.addresses.items
+        attempt.machine met) }
+{
+    let mut one = NetworkLoop::new(alloc, 1)?;
+    one.connect(network, ONLY, attempt, poller.now());
+    one.run(network, poller, sink, None, room)?;
+    match one.take(ONLY) {
+        Taken::Slot(slot) => {
+            let Slot {
+                machine,
+                stream,
+                ..
+            } = slot;
+            let end = machine.into_end()?;
             Ok(Met::Ended(end, stream))
         }
+        Taken::Missed(why) => Ok(Met::NotMade(why)),
+        Taken::Broken => Err(K::Fault::from(NoMemory)),
+        Taken::Nothing | Taken::UnderWay => unreachable!(),
     }
-}
-
-/// Runs a machine over a stream that has done nothing, until it is done.
-fn run_made<M: Machine + Drop, S: NonBlocking + Drop, P: Poller>(
-    alloc: Global,
-    poller: &mut P,
-    machine: M,
-    stream: S,
-    bounds: Bounds,
-    room: &mut [u8],
-) -> Result<(M::End, S), LoopFault>
-    requires room { 0 < length room.old }
-    requires fresh { S.did stream stream [] }
-    requires untold { M.agrees machine machine [] }
-    requires goes_on { HasNext (M.wants machine) }
-    ensures { IfOk result (λ ran. HasEndedSince M.agrees M.wants M.gives S.did bounds (P.time poller.old)
-        (P.time poller.new) machine ran.0 ran.1) }
-{
-    let now = poller.now();
-    let pace = Pace::begun(now, bounds.limit, bounds.until);
-    let slot = run_slot(
-        alloc,
-        poller,
-        Slot {
-            machine,
-            stream,
-            pace,
-        },
-        room,
-    )?;
-    let Slot {
-        machine,
-        stream,
-        ..
-    } = slot;
-    let end = machine.into_end()?;
-    Ok((end, stream))
-}
-
-/// Runs a slot by itself until it is done.
-pub fn run_slot<M: Machine + Drop, S: NonBlocking + Drop, P: Poller>(
-    alloc: Global,
-    poller: &mut P,
-    slot: Slot<M, S>,
-    room: &mut [u8],
-) -> Result<Slot<M, S>, LoopFault>
-    requires room { 0 < length room.old }
-    requires able { IsAble M.agrees M.wants slot.machine }
-    ensures run { IfOk result (λ done. HasRun M.agrees M.wants S.did (P.time poller.old) (P.time poller.new)
-        slot done) }
-    ensures done { IfOk result (λ done. (M.wants done.machine).done ≡ true) }
-{
-    let mut one = loop_of(alloc, slot)?;
-    one.run(poller, &mut NoLines, None, room)?;
-    match one.take(ONLY) {
-        Place::Open(slot) => Ok(slot),
-        Place::Broken => Err(LoopFault::NoMemory),
-        Place::Empty => unreachable!(),
-    }
-}
-
-/// A loop of one place, in which this slot stands.
-fn loop_of<M: Machine + Drop, S: NonBlocking + Drop>(
-    alloc: Global,
-    slot: Slot<M, S>,
-) -> Result<Loop<M, S>, NoMemory>
-    requires able { IsAble M.agrees M.wants slot.machine }
-    ensures { IfOk result (λ one. one.places ≡ Open slot ∷ []) }
-{
-    let mut one = Loop::new(alloc, 1)?;
-    one.put(ONLY, slot);
-    Ok(one)
 }

@@ -1,7 +1,7 @@
 //! What is asked of a network.
 
 ghost use Rattle.std.specs.Prelude.{◌≡◌, ◌∷◌, [], IfOk, MatchResult};
-ghost use Rattle.ws_networks.specs.Networks.{HasAdded, is_pending};
+ghost use Rattle.ws_networks.specs.Networks.{HasAdded};
 ghost use Rattle.ws_networks.specs.Networks.NetworkDeed.{Asked, Begun, Bound, Found, Named, NotBegun, NotBound};
 ghost use Rattle.ws_networks.specs.Networks.NetworkDeed.{NotFound, NotNamed};
 
@@ -17,18 +17,6 @@ pub enum Progress<W> {
     Pending,
     /// It has failed, for this reason.
     Failed(W),
-}
-
-impl<W: Copy> Progress<W> {
-    /// Whether it is neither made, nor has it failed.
-    pub(crate) fn is_pending(self) -> bool
-        ensures { result ≡ is_pending self }
-    {
-        match self {
-            Progress::Pending => true,
-            Progress::Made | Progress::Failed(_) => false,
-        }
-    }
 }
 
 /// It looks names up, begins connections, each for a place of a loop, and listens: under the mark of that place, or of
@@ -59,16 +47,21 @@ pub trait Network {
             (λ addresses. HasAdded did self.old self.new (Found name.now addresses.items ∷ []))
             (λ why. HasAdded did self.old self.new (NotFound name.now why ∷ [])) };
 
-    /// Begins a connection to an address, for this place. Its stream has done nothing yet.
-    fn begin(&mut self, address: Self::Address, at: usize) -> Result<Self::Stream, Self::Miss>
+    /// Begins a connection to an address, for this place and by this time. Its stream has done nothing yet.
+    fn begin(
+        &mut self,
+        address: Self::Address,
+        at: usize,
+        now: u64,
+    ) -> Result<Self::Stream, Self::Miss>
         ensures did { MatchResult result
-            (λ stream. HasAdded did self.old self.new (Begun at address ∷ []))
-            (λ why. HasAdded did self.old self.new (NotBegun address why ∷ [])) }
+            (λ stream. HasAdded did self.old self.new (Begun at address now ∷ []))
+            (λ why. HasAdded did self.old self.new (NotBegun at address why ∷ [])) }
         ensures fresh { IfOk result (λ stream. Self.Stream.did stream stream []) };
 
-    /// How far a connection has come.
-    fn progress(&mut self, stream: &Self::Stream) -> Progress<Self::Miss>
-        ensures { HasAdded did self.old self.new (Asked result ∷ []) };
+    /// How far the connection has come that was begun last for this place, which is this stream.
+    fn progress(&mut self, stream: &Self::Stream, at: usize) -> Progress<Self::Miss>
+        ensures { HasAdded did self.old self.new (Asked at result ∷ []) };
 
     /// Listens at an address; where its port is 0, at one that the system chooses. The listener has done nothing yet.
     fn bind(&mut self, address: Self::Address) -> Result<Self::Listener, Self::Miss>

@@ -113,7 +113,12 @@ impl<N: Net> Network for SystemNetwork<'_, N> {
         }
     }
 
-    fn begin(&mut self, address: SocketAddr, at: usize) -> Result<SystemStream, ConnectMiss> {
+    fn begin(
+        &mut self,
+        address: SocketAddr,
+        at: usize,
+        _now: u64,
+    ) -> Result<SystemStream, ConnectMiss> {
         match self.begun(address, at) {
             Ok(stream) => Ok(SystemStream {
                 stream,
@@ -123,7 +128,7 @@ impl<N: Net> Network for SystemNetwork<'_, N> {
         }
     }
 
-    fn progress(&mut self, stream: &SystemStream) -> Progress<ConnectMiss> {
+    fn progress(&mut self, stream: &SystemStream, _at: usize) -> Progress<ConnectMiss> {
         match stream.stream.take_error() {
             Ok(Some(error)) | Err(error) => {
                 return Progress::Failed(ConnectMiss::NotTaken(error.kind()));

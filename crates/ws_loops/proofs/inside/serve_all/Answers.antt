@@ -1,9 +1,9 @@
 -- All places are called, and each has its turn.
-use Rattle.std.proofs.Common.{◌∙◌, false, refl, subst}
+use Rattle.std.proofs.Common.{◌∙◌, false, refl, subst, sym}
 use Rattle.ws_loops.specs.Inside.{AreAllCalled}
 use Rattle.ws_loops.specs.Loops.{AreServed}
+use Rattle.ws_loops.specs.Places.{StayOfKind}
 use Rattle.ws_loops.specs.declared.inside.Inside.{Inside}
-use Rattle.ws_loops.specs.declared.places.Place.TheVariants.{Open}
 use Rattle.ws_loops.specs.declared.places.Seats.{Seats}
 use Rattle.ws_loops.proofs.InsideLemmas.{among_every, all_called, none_called, rests_all}
 use Rattle.ws_loops.proofs.InsideLemmas.{served_over, standing_same, turns_by_call, whole_refused, whole_served}
@@ -70,9 +70,9 @@ returns-in-Ok-clause-served g c =
     (called.len ∙ c.requires.whole.standing.calls) in
     let turns = turns_by_call agrees wants did heard c.args.now old.all.items old.seats passed
     c.serve_these.new.seats c.args.sink.now c.serve_these.new.sink c.requires.whole.standing.calls called.len refl
-    called.stay (λ i slot is none. absurd (all_called g.M.Machine.agrees g.M.Machine.wants old
-    old.seats.places.items c.call_these.new.calls.items c.requires.whole called refl i
-    (Open slot) is none)) served among in
+    called.stay (λ i place is none. absurd (all_called g.M.Machine.agrees g.M.Machine.wants old
+    old.seats.places.items c.call_these.new.calls.items c.requires.whole called refl i place is none))
+    served among in
     served_over agrees wants did heard c.args.now old served_inside c.turn_over.new.inside c.args.sink.now
     c.serve_these.new.sink turns served.turns c.turn_over.ensures
 
@@ -113,12 +113,16 @@ returns-in-Ok-clause-whole g c =
     let among = among_every agrees wants did heard old c.call_these.new.calls.items c.requires.whole
     (called.len ∙ c.requires.whole.standing.calls) in
     whole_served agrees wants old served_inside c.turn_over.new.inside c.requires.whole
-    c.in-Ok.ensures.standing c.in-Ok.ensures.rests c.in-Ok.ensures.taken
+    c.in-Ok.ensures.standing c.in-Ok.ensures.rests c.in-Ok.ensures.kinds
     (none_called agrees wants did heard c.args.now old.all.items passed c.serve_these.new.seats
     c.args.sink.now c.serve_these.new.sink (called.len ∙ c.requires.whole.standing.calls) served among) refl refl
     c.turn_over.ensures
 
 pub returns-in-Err-clause-whole : goal.returns-in-Err-clause-whole
 returns-in-Err-clause-whole g c = whole_refused g.M.Machine.agrees g.M.Machine.wants c.args.inside.now _
-    c.serve_these.new.seats c.requires.whole c.in-Err.ensures.standing c.in-Err.ensures.taken refl refl refl refl refl
+    c.serve_these.new.seats c.requires.whole c.in-Err.ensures.standing c.in-Err.ensures.kinds refl refl refl refl refl
     refl refl refl refl
+
+pub returns-in-Ok-clause-kinds : goal.returns-in-Ok-clause-kinds
+returns-in-Ok-clause-kinds g c = subst (λ l. StayOfKind c.args.inside.now.seats.places.items l)
+    (sym c.turn_over.ensures.places) c.in-Ok.ensures.kinds

@@ -1,7 +1,8 @@
 -- The places that are listed are called, and each has its turn; in the others nothing is due.
-use Rattle.std.proofs.Common.{◌∙◌, refl, subst}
+use Rattle.std.proofs.Common.{◌∙◌, refl, subst, sym}
 use Rattle.ws_loops.specs.Inside.{AreAllCalled}
 use Rattle.ws_loops.specs.Loops.{AreServed}
+use Rattle.ws_loops.specs.Places.{StayOfKind}
 use Rattle.ws_loops.specs.declared.inside.Inside.{Inside}
 use Rattle.ws_loops.specs.declared.places.Seats.{Seats}
 use Rattle.ws_loops.proofs.InsideLemmas.{among_listed, none_called, not_due_listed, rests_listed}
@@ -93,12 +94,16 @@ returns-in-Ok-clause-whole g c =
     let among = among_listed agrees wants did heard old c.call_these.new.calls.items c.args.now c.requires.whole called
     c.requires.some in
     whole_served agrees wants old served_inside c.turn_over.new.inside c.requires.whole
-    c.in-Ok.ensures.standing c.in-Ok.ensures.rests c.in-Ok.ensures.taken
+    c.in-Ok.ensures.standing c.in-Ok.ensures.rests c.in-Ok.ensures.kinds
     (none_called agrees wants did heard c.args.now old.list.items passed c.serve_these.new.seats
     c.args.sink.now c.serve_these.new.sink (called.len ∙ c.requires.whole.standing.calls) served among) refl refl
     c.turn_over.ensures
 
 pub returns-in-Err-clause-whole : goal.returns-in-Err-clause-whole
 returns-in-Err-clause-whole g c = whole_refused g.M.Machine.agrees g.M.Machine.wants c.args.inside.now _
-    c.serve_these.new.seats c.requires.whole c.in-Err.ensures.standing c.in-Err.ensures.taken refl refl refl refl refl
+    c.serve_these.new.seats c.requires.whole c.in-Err.ensures.standing c.in-Err.ensures.kinds refl refl refl refl refl
     refl refl refl refl
+
+pub returns-in-Ok-clause-kinds : goal.returns-in-Ok-clause-kinds
+returns-in-Ok-clause-kinds g c = subst (λ l. StayOfKind c.args.inside.now.seats.places.items l)
+    (sym c.turn_over.ensures.places) c.in-Ok.ensures.kinds

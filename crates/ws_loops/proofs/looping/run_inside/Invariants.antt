@@ -1,7 +1,7 @@
--- So far each place has gone on, and who had ended keeps its number.
-use Rattle.std.proofs.Common.{◌≡◌, ◌<◌, length}
-use Rattle.ws_loops.specs.Loops.{HaveRun, IsLoopSound}
-use Rattle.ws_loops.specs.Places.{KeepTurns}
+-- So far each place has gone on, and who had ended keeps its number. Behind the first round all were served in time.
+use Rattle.std.proofs.Common.{◌≡◌, ◌<◌, ◌≤◌, ◌⊎◌, None, length}
+use Rattle.ws_loops.specs.Loops.{AreServedInTime, HaveRun, IsLoopSound}
+use Rattle.ws_loops.specs.Places.{KeepTurns, StayOfKind}
 use Rattle.ws_loops.proofs.looping.run_inside.Given as goal
 
 abbrev pub invariant-loop-ending : goal.invariant-loop-ending
@@ -11,10 +11,14 @@ invariant-loop-ending g l = record {
   run : HaveRun g.M.Machine.agrees g.M.Machine.wants g.S.NonBlocking.did g.K.LineSink.heard
       (g.P.Poller.time l.fn.poller) (g.P.Poller.time l.poller) l.fn.inside.seats.places.items
       l.inside.seats.places.items l.fn.sink l.sink;
+  later : g.P.Poller.time l.fn.poller ≤ g.P.Poller.time l.poller;
   now : l.now ≡ g.P.Poller.time l.poller;
-  len : length l.inside.seats.tickets.items ≡ length l.fn.inside.seats.tickets.items;
   turns : KeepTurns l.fn.inside.seats.tickets.items l.inside.seats.tickets.items;
   deaf : l.inside.door.deaf ≡ l.fn.inside.door.deaf;
+  kinds : StayOfKind l.fn.inside.seats.places.items l.inside.seats.places.items;
+  late : ((l.late ≡ None) × (l.inside.seats.tickets.items ≡ l.fn.inside.seats.tickets.items))
+      ⊎ ((l.late ≡ l.until) × AreServedInTime g.M.Machine.agrees g.M.Machine.wants
+      g.S.NonBlocking.did (g.P.Poller.time l.poller) l.inside.seats.places.items);
 }
 
 -- each wait lowers how often it can still wait

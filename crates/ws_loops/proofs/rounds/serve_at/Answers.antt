@@ -2,7 +2,7 @@
 use Rattle.std.proofs.Common.{◌∙◌, Option, Some, ap, arith, inl, inr, refl, sym}
 use Rattle.std.specs.List.{slice_get}
 use Rattle.ws_loops.specs.declared.poller.Readiness.{Readiness}
-use Rattle.ws_loops.proofs.PlaceLemmas.{taken_same}
+use Rattle.ws_loops.proofs.PlaceLemmas.{kinds_same}
 use Rattle.ws_loops.proofs.SeatLemmas.{once_still}
 use Rattle.ws_loops.proofs.SinkLemmas.{put_nothing}
 use Rattle.ws_loops.proofs.rounds.serve_at.Goals as goal
@@ -13,8 +13,8 @@ returns-then-at-len-clause-served g c = once_still g.M.Machine.agrees g.M.Machin
     (inr (omega (arith, c.requires.standing.calls, c.if-at-len.true, c.len.ensures)))
     (put_nothing g.K.LineSink.heard c.args.sink.now)
 
-pub returns-then-at-len-clause-taken : goal.returns-then-at-len-clause-taken
-returns-then-at-len-clause-taken g c = taken_same c.args.seats.now.places.items
+pub returns-then-at-len-clause-kinds : goal.returns-then-at-len-clause-kinds
+returns-then-at-len-clause-kinds g c = kinds_same c.args.seats.now.places.items
 
 pub returns-in-None-clause-served : goal.returns-in-None-clause-served
 returns-in-None-clause-served g c = once_still g.M.Machine.agrees g.M.Machine.wants g.S.NonBlocking.did
@@ -22,8 +22,8 @@ returns-in-None-clause-served g c = once_still g.M.Machine.agrees g.M.Machine.wa
     (inl (ap (λ l. slice_get l c.args.at) (sym c.as_slice.ensures.value) ∙ (c.call_at.ensures
     ∙ ap (λ (o : Option Readiness). Some o) c.in-None.is))) (put_nothing g.K.LineSink.heard c.args.sink.now)
 
-pub returns-in-None-clause-taken : goal.returns-in-None-clause-taken
-returns-in-None-clause-taken g c = taken_same c.args.seats.now.places.items
+pub returns-in-None-clause-kinds : goal.returns-in-None-clause-kinds
+returns-in-None-clause-kinds g c = kinds_same c.args.seats.now.places.items
 
 pub serve_called-requires-clause-call : goal.serve_called-requires-clause-call
 serve_called-requires-clause-call g c = ap (λ l. slice_get l c.args.at) (sym c.as_slice.ensures.value)

@@ -1,8 +1,8 @@
 -- Each thing that is done is one more, with its lines; at the end nothing is due, or the share is used up.
 use Rattle.std.proofs.Common.{◌∙◌, ◌++◌, List, [], ℕ, arith, inl, inr, refl, subst, sym}
 use Rattle.ws_loops.specs.Sinks.{HasTakenLines, said_at}
-use Rattle.ws_loops.proofs.RunLemmas.{nothing_happened, one_more, served_so}
-use Rattle.ws_loops.proofs.SinkLemmas.{put_nothing, put_then, put_until, said_then}
+use Rattle.ws_loops.proofs.RunLemmas.{nothing_happened, one_more, put_broken, served_so}
+use Rattle.ws_loops.proofs.SinkLemmas.{put_nothing, put_then, said_then}
 use Rattle.ws_loops.proofs.rounds.serve_awake.Goals as goal
 use Rattle.ws_loops.proofs.rounds.serve_awake.Goals.{then-loop-share-test+else-is_due, else-loop-share-test}
 
@@ -47,8 +47,9 @@ loop-share-preserved g c =
 pub returns-in-Err-clause-put : goal.returns-in-Err-clause-put
 returns-in-Err-clause-put g c =
     let (lines, put, so_far) = c.loop-share.invariant.so_far in
-    put_until g.K.LineSink.heard c.args.at c.args.sink.now c.loop-share.sink c.step.new.sink lines c.in-Err.why put
-    c.in-Err.ensures.put
+    put_broken g.M.Machine.agrees g.M.Machine.wants g.S.NonBlocking.did g.K.LineSink.heard c.args.at c.args.sink.now
+    c.loop-share.sink c.step.new.sink c.args.now c.args.slot.now c.loop-share.slot c.loop-share.share lines c.in-Err.why
+    put so_far (sym c.is_due.ensures ∙ c.if-is_due.true) c.in-Err.ensures.put
 
 pub returns-clause-served : goal.returns-clause-served
 returns-clause-served g c =

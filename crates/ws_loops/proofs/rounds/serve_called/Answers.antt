@@ -5,7 +5,7 @@ use Rattle.std.specs.Vec.{with_item}
 use Rattle.std.proofs.lemmas.Option.{slice_get_within}
 use Rattle.ws_loops.specs.declared.places.Seats.{Seats}
 use Rattle.ws_loops.proofs.InsideLemmas.{standing_same}
-use Rattle.ws_loops.proofs.PlaceLemmas.{length_set, none_of, place_of, some_of, taken_same}
+use Rattle.ws_loops.proofs.PlaceLemmas.{length_set, none_of, place_of, some_of, kinds_same}
 use Rattle.ws_loops.proofs.SeatLemmas.{once_ended, rests_ended}
 use Rattle.ws_loops.proofs.SinkLemmas.{put_nothing}
 use Rattle.ws_loops.proofs.rounds.serve_called.Goals as goal
@@ -30,8 +30,8 @@ pub returns-then-is_some-clause-standing : goal.returns-then-is_some-clause-stan
 returns-then-is_some-clause-standing g c = standing_same g.M.Machine.agrees g.M.Machine.wants c.args.seats.now _
     c.requires.standing refl (length_set c.args.seats.now.calls.items c.args.at None) refl refl refl refl
 
-pub returns-then-is_some-clause-taken : goal.returns-then-is_some-clause-taken
-returns-then-is_some-clause-taken g c = taken_same c.args.seats.now.places.items
+pub returns-then-is_some-clause-kinds : goal.returns-then-is_some-clause-kinds
+returns-then-is_some-clause-kinds g c = kinds_same c.args.seats.now.places.items
 
 pub returns-then-is_some-clause-rests : goal.returns-then-is_some-clause-rests
 returns-then-is_some-clause-rests g c =

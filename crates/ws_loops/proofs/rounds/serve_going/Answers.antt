@@ -3,10 +3,10 @@ use Rattle.std.proofs.Common.{◌≡◌, ◌∙◌, ◌<◌, List, Option, None,
 use Rattle.std.specs.List.{slice_get}
 use Rattle.std.specs.Vec.{with_item}
 use Rattle.std.proofs.lemmas.Option.{slice_get_within}
-use Rattle.ws_loops.specs.Places.{StayTaken}
+use Rattle.ws_loops.specs.Places.{StayOfKind}
 use Rattle.ws_loops.specs.declared.places.Seats.{Seats}
 use Rattle.ws_loops.specs.declared.poller.Readiness.{Readiness}
-use Rattle.ws_loops.proofs.PlaceLemmas.{length_set, read_place, taken_set}
+use Rattle.ws_loops.proofs.PlaceLemmas.{length_set, read_place, kinds_set}
 use Rattle.ws_loops.proofs.SeatLemmas.{not_ended, once_served, rests_noted, rests_refused, standing_noted}
 use Rattle.ws_loops.proofs.SeatLemmas.{standing_refused}
 use Rattle.ws_loops.proofs.rounds.serve_going.Goals as goal
@@ -128,8 +128,8 @@ returns-clause-rests g c =
     (ap (λ (l : List (Option Readiness)). slice_set l at None) noted.calls) noted.rest c.in_ok-outlook.ensures.outlook
     noted.noted
 
-pub returns-clause-taken : goal.returns-clause-taken
-returns-clause-taken g c =
+pub returns-clause-kinds : goal.returns-clause-kinds
+returns-clause-kinds g c =
     let agrees = g.M.Machine.agrees in
     let wants = g.M.Machine.wants in
     let old = c.args.seats.now in
@@ -142,8 +142,8 @@ returns-clause-taken g c =
     let x = c.index_mut.result.now in
     let x_is : slice_get old.places.items at ≡ Some x =
     read_place old.places.items at x x lt c.index_mut.ensures.value refl in
-    subst (λ l. StayTaken old.places.items l) (sym c.note.ensures.noted.places)
-    (taken_set old.places.items at x c.serve_place.new.place x_is c.in_ok-outlook.ensures.taken)
+    subst (λ l. StayOfKind old.places.items l) (sym c.note.ensures.noted.places)
+    (kinds_set old.places.items at x c.serve_place.new.place x_is c.in_ok-outlook.ensures.kinds)
 
 pub returns-in_err-outlook-clause-standing : goal.returns-in_err-outlook-clause-standing
 returns-in_err-outlook-clause-standing g c = standing_refused g.M.Machine.agrees g.M.Machine.wants c.args.seats.now _
@@ -162,8 +162,8 @@ returns-in_err-outlook-clause-rests g c =
     rests_refused g.M.Machine.agrees g.M.Machine.wants old new c.args.at c.serve_place.new.place c.args.ready
     c.requires.rests c.requires.call refl refl refl
 
-pub returns-in_err-outlook-clause-taken : goal.returns-in_err-outlook-clause-taken
-returns-in_err-outlook-clause-taken g c =
+pub returns-in_err-outlook-clause-kinds : goal.returns-in_err-outlook-clause-kinds
+returns-in_err-outlook-clause-kinds g c =
     let agrees = g.M.Machine.agrees in
     let wants = g.M.Machine.wants in
     let old = c.args.seats.now in
@@ -176,4 +176,4 @@ returns-in_err-outlook-clause-taken g c =
     let x = c.index_mut.result.now in
     let x_is : slice_get old.places.items at ≡ Some x =
     read_place old.places.items at x x lt c.index_mut.ensures.value refl in
-    taken_set old.places.items at x c.serve_place.new.place x_is c.in_err-outlook.ensures.taken
+    kinds_set old.places.items at x c.serve_place.new.place x_is c.in_err-outlook.ensures.kinds

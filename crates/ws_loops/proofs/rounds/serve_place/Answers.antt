@@ -1,9 +1,10 @@
 -- Of a slot it is its turn, or memory ran out for it.
-use Rattle.std.proofs.Common.{subst, sym}
+use Rattle.std.proofs.Common.{ℕ, List, subst, sym}
 use Rattle.ws_loops.specs.Loops.{HasPlaceTurn}
 use Rattle.ws_loops.specs.Places.{IfOpen, IsPlaceOver}
-use Rattle.ws_loops.specs.Slots.{IsAble}
-use Rattle.ws_loops.specs.declared.places.Place.TheVariants.{Open}
+use Rattle.ws_loops.specs.Slots.{HasBroken, IsAble, PutsSome}
+use Rattle.ws_loops.specs.declared.places.Place.TheVariants.{Broken, Open}
+use Rattle.ws_loops.proofs.RunLemmas.{at_no_memory}
 use Rattle.ws_loops.proofs.SeatLemmas.{goes_on_so}
 use Rattle.ws_loops.proofs.rounds.serve_place.Goals as goal
 
@@ -23,4 +24,16 @@ returns-in-Ok-clause-turn g c =
       put,
       subst (λ p. HasPlaceTurn g.M.Machine.agrees g.M.Machine.wants g.S.NonBlocking.did c.args.ready c.args.now p
           (Open c.serve_slot.new.slot) lines) (sym c.in-Open.is) turn,
+    )
+
+pub returns-in-Err-NoMemory-clause-turn : goal.returns-in-Err-NoMemory-clause-turn
+returns-in-Err-NoMemory-clause-turn g c =
+    let (lines, put, broken) = at_no_memory (PutsSome g.K.LineSink.heard c.args.at c.args.sink.now
+    c.serve_slot.new.sink (λ (l : List (List ℕ)). HasBroken g.M.Machine.agrees g.M.Machine.wants g.S.NonBlocking.did
+    c.args.now c.args.now c.in-Open.slot l)) c.in-Err-NoMemory.field-0 c.in-Err-NoMemory.field-0-is
+    c.in-Err-NoMemory.ensures.put in (
+      lines,
+      put,
+      subst (λ p. HasPlaceTurn g.M.Machine.agrees g.M.Machine.wants g.S.NonBlocking.did c.args.ready c.args.now p
+          Broken lines) (sym c.in-Open.is) broken,
     )

@@ -1,7 +1,7 @@
 -- The first of these places were served, each place stands so, and what isn't called is seen to.
 use Rattle.std.proofs.Common.{◌<◌, ◌≤◌, ◌-◌, length}
 use Rattle.ws_loops.specs.Loops.{AreServedTo, AreSeatsSound, RestsUncalled}
-use Rattle.ws_loops.specs.Places.{StayTaken}
+use Rattle.ws_loops.specs.Places.{StayOfKind}
 use Rattle.ws_loops.proofs.rounds.serve_these.Given as goal
 
 abbrev pub invariant-loop-next : goal.invariant-loop-next
@@ -10,7 +10,7 @@ invariant-loop-next g l = record {
   next : l.next ≤ length l.these;
   standing : AreSeatsSound g.M.Machine.agrees g.M.Machine.wants l.seats;
   rests : RestsUncalled g.M.Machine.wants l.seats;
-  taken : StayTaken l.fn.seats.places.items l.seats.places.items;
+  kinds : StayOfKind l.fn.seats.places.items l.seats.places.items;
   served : AreServedTo g.M.Machine.agrees g.M.Machine.wants g.S.NonBlocking.did g.K.LineSink.heard l.now l.these l.next
       l.fn.seats l.seats l.fn.sink l.sink;
 }

@@ -1,5 +1,5 @@
 -- The lines that were taken are those that were wanted.
-use Rattle.std.proofs.Common.{◌∷◌, [], List, ℕ, refl, subst}
+use Rattle.std.proofs.Common.{◌∷◌, [], List, ℕ, inr, refl, subst}
 use Rattle.ws_loops.specs.Sinks.{HasTakenLines}
 use Rattle.ws_loops.proofs.StepLemmas.{showed_so}
 use Rattle.ws_loops.proofs.serving.report.Goals as goal
@@ -20,5 +20,5 @@ returns-in-Err-tell-clause-put g c =
       lines ∷ [],
       subst (λ (l : List ℕ). HasTakenLines g.K.LineSink.heard c.args.sink.now c.put.new.self ((c.args.at, l) ∷ []))
           c.to_report.ensures c.in-Ok.ensures,
-      tt,
+      inr (c.requires.wanted, refl),
     )
