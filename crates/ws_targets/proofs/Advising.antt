@@ -1,25 +1,29 @@
 -- What is wrong with a URL is what is wrong with its authority, and that is looked for behind its last colon.
 use Rattle.std.proofs.Common.{◌≡◌, ℕ, List, All, IsTrue, drop, subst, sym}
-use Rattle.ws_targets.specs.Advice.{Advises, AdvisesAuthority, HasBadPort, IsNoPort, begins_as_web}
+use Rattle.ws_targets.specs.Advice.{Advises, AdvisesUrl, HasBadPort, IsNoPort, begins_as_web}
 use Rattle.ws_targets.specs.Places.{IsCutAtLastColon}
 use Rattle.ws_targets.specs.Targets.{HasScheme, authority_of, begins_with_wss}
 use Rattle.ws_targets.specs.declared.advice.Advice.{Advice}
-use Rattle.ws_targets.specs.declared.advice.Advice.TheVariants.{Encrypted, Nothing, Port, Url, User, Web}
+use Rattle.ws_targets.specs.declared.advice.Advice.TheVariants.{Encrypted, Fragment, Nothing, Port}
+use Rattle.ws_targets.specs.declared.advice.Advice.TheVariants.{Unencoded, Url, User, Web}
 use Rattle.ws_targets.proofs.Cuts.{NoColon, lacks_cut, one_cut}
 
--- what is wrong with the authority of a URL is wrong with the URL
-pub advised_url : (word authority : List ℕ) (given : Advice) → ¬ (IsTrue (begins_with_wss word))
-    → ¬ (IsTrue (begins_as_web word)) → HasScheme word → authority ≡ authority_of (drop 5 word)
-    → AdvisesAuthority authority given → Advises word given
-advised_url word authority given no_tls no_page scheme e is =
-    by given (subst (λ (l : List ℕ). AdvisesAuthority l given) e is)
+-- what is wrong with a URL is wrong with the word
+pub advised_url : (word url authority : List ℕ) (given : Advice) → ¬ (IsTrue (begins_with_wss word))
+    → ¬ (IsTrue (begins_as_web word)) → HasScheme word → url ≡ word → authority ≡ authority_of (drop 5 word)
+    → AdvisesUrl url authority given → Advises word given
+advised_url word url authority given no_tls no_page scheme same e is =
+    by given (subst (λ (l : List ℕ). AdvisesUrl word l given) e
+    (subst (λ (l : List ℕ). AdvisesUrl l authority given) same is))
   where
-    by : (given : Advice) → AdvisesAuthority (authority_of (drop 5 word)) given → Advises word given
-    by Encrypted wrong = absurd wrong
-    by Web wrong = absurd wrong
-    by Url wrong = wrong
+    by : (given : Advice) → AdvisesUrl word (authority_of (drop 5 word)) given → Advises word given
+    by Encrypted wrong = absurd wrong.1
+    by Web wrong = absurd wrong.1
+    by Url wrong = wrong.1
     by User is = (scheme, is)
     by Port is = (scheme, is)
+    by Unencoded is = (scheme, is)
+    by Fragment is = (scheme, is)
     by Nothing is = (no_tls, no_page, λ _. is)
 
 -- a word without the scheme has no authority with which something could be wrong

@@ -1,8 +1,8 @@
 //! What is to be typed in the place of a word that names no target.
 
 ghost use Rattle.std.specs.Prelude.{◌≡◌, ◌↔◌, IsTrue};
-ghost use Rattle.ws_targets.specs.Advice.{Advises, AdvisesAuthority, HasBadPort, IsLargeNumber, IsNoPort};
-ghost use Rattle.ws_targets.specs.Advice.{begins_as_web};
+ghost use Rattle.ws_targets.specs.Advice.{Advises, AdvisesAuthority, AdvisesBytes, AdvisesUrl, HasBadPort};
+ghost use Rattle.ws_targets.specs.Advice.{IsLargeNumber, IsNoPort, IsVisible, begins_as_web};
 
 use crate::place::cut_at_last_colon;
 use crate::target::{asks_for_tls, authority_in, begins_with};
@@ -19,6 +19,10 @@ pub enum Advice {
     User,
     /// The port of the URL is left out behind its colon, or too large.
     Port,
+    /// A byte of the URL is no visible ASCII character.
+    Unencoded,
+    /// The URL has a fragment.
+    Fragment,
     /// A URL is given, and an address is wanted.
     Url,
     /// It is none of these.
@@ -36,9 +40,40 @@ pub fn target_advice(word: &str) -> Advice
         return Advice::Web;
     }
     match authority_in(word.as_bytes()) {
-        Some(authority) => authority_advice(authority),
+        Some(authority) => url_advice(word.as_bytes(), authority),
         None => Advice::Nothing,
     }
+}
+
+/// What is wrong with a URL that has this authority.
+fn url_advice(url: &[u8], authority: &[u8]) -> Advice
+    ensures { AdvisesUrl url.now authority.now result }
+{
+    match authority_advice(authority) {
+        Advice::Nothing => bytes_advice(url),
+        advice => advice,
+    }
+}
+
+/// What is wrong with the bytes of a URL.
+fn bytes_advice(url: &[u8]) -> Advice
+    ensures { AdvisesBytes url.now result }
+{
+    if !is_visible(url) {
+        return Advice::Unencoded;
+    }
+    if url.contains(&b'#') {
+        Advice::Fragment
+    } else {
+        Advice::Nothing
+    }
+}
+
+/// Whether all bytes are visible ASCII characters.
+fn is_visible(bytes: &[u8]) -> bool
+    ensures { IsTrue result ↔ IsVisible bytes.now }
+{
+    bytes.iter().all(|byte| byte.is_ascii_graphic())
 }
 
 /// Whether a word begins as the URL of a page.

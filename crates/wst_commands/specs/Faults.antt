@@ -1,5 +1,5 @@
 -- What is told on the fault output in place of an answer, and the exit that it stands for.
-use Rattle.std.specs.Prelude.{◌≡◌, ℕ, ◌⊎◌, List, [], ◌∷◌, Result, Ok, Err, codes}
+use Rattle.std.specs.Prelude.{◌≡◌, ℕ, ◌⊎◌, ◌==◌, List, [], ◌∷◌, Result, Ok, Err, codes, if◌then◌else◌}
 use Rattle.std.specs.List.{concat}
 use Rattle.std.specs.Fmt.{decimal}
 use Rattle.ws_frame.specs.Devices.{Device, IsUntouched}
@@ -14,7 +14,8 @@ use Rattle.wst_commands.specs.declared.fault.Fault.TheVariants.{NotACall, NotACa
 use Rattle.wst_commands.specs.declared.fault.Fault.TheVariants.{NotAResult, NotListening, StreamWithCapture}
 use Rattle.wst_commands.specs.declared.fault.Fault.TheVariants.{NoText, NoTask, NoMemory, RoleWithoutCapture}
 use Rattle.wst_commands.specs.declared.fault.Fault.TheVariants.{JunitWithJson, JunitWithSummary, NoCaseLine, NotAName}
-use Rattle.wst_commands.specs.declared.fault.Fault.TheVariants.{HeadIsCut, SummaryWithJson, TimeoutWithUnit}
+use Rattle.wst_commands.specs.declared.fault.Fault.TheVariants.{CaptureOfServer, HeadIsCut, SummaryWithJson}
+use Rattle.wst_commands.specs.declared.fault.Fault.TheVariants.{TimeoutWithUnit}
 use Rattle.wst_commands.specs.declared.fault.ListenFault.{ListenFault}
 use Rattle.wst_commands.specs.declared.fault.ListenFault.TheVariants as why
 
@@ -30,6 +31,12 @@ damage_line number what = concat (codes "line " ∷ decimal number ∷ codes ": 
 abbrev pub TellsLine : ℕ → List ℕ → Exit → Device → Type 0
 TellsLine number what exit faults =
     ((exit ≡ Damaged) × Tells (damage_line number what) faults) ⊎ LacksMemory exit faults
+
+-- what is told of the first damaged line of a capture: of line 1 also which it is
+abbrev pub no_capture_words : ℕ → List ℕ
+no_capture_words number =
+    if number == 1 then codes "not a capture\n  line 1 is wst-capture 1 or wst-capture 2, with LF alone at its end"
+    else codes "not a capture"
 
 -- the line that tells why nothing can be listened at, and below it which address is wanted where it is none
 abbrev pub not_listening_line : ListenFault → List ℕ
@@ -56,7 +63,7 @@ TellsFault JunitWithSummary exit faults = (exit ≡ WrongWords) × Tells (codes 
 TellsFault HeadIsCut exit faults = (exit ≡ Damaged) × Tells (codes "head is cut\n") faults
 TellsFault (NotAMove number) exit faults = TellsLine number (codes "not a move") exit faults
 TellsFault (NotACall number) exit faults = TellsLine number (codes "not a call") exit faults
-TellsFault (NotACapture number) exit faults = TellsLine number (codes "not a capture") exit faults
+TellsFault (NotACapture number) exit faults = TellsLine number (no_capture_words number) exit faults
 TellsFault (NotAStep number damage) exit faults = TellsLine number (damage_words damage) exit faults
 TellsFault (NotAVerdict number damage) exit faults = TellsLine number (known_damage_words damage) exit faults
 TellsFault (NotAResult number damage) exit faults = TellsLine number (run_damage_words damage) exit faults
@@ -65,6 +72,9 @@ TellsFault NoCaseLine exit faults =
     (exit ≡ Done) × Tells (codes "no line of a case: report reads what wst test printed\n") faults
 TellsFault CaptureOfClient exit faults = (exit ≡ Damaged)
     × Tells (codes "the received frames are masked as a client's: to judge a client, add --role client\n") faults
+TellsFault CaptureOfServer exit faults = (exit ≡ Damaged)
+    × Tells (codes "the received frames have no mask, as a server's: to judge a server, leave out --role client\n")
+    faults
 TellsFault NoText exit faults = (exit ≡ WrongWords) × Tells (codes "error: the arguments are not UTF-8\n") faults
 TellsFault NoTask exit faults = (exit ≡ WrongWords) × Tells (codes "error: the arguments ask for nothing\n") faults
 TellsFault (NotListening why) exit faults = (exit ≡ Failed) × Tells (not_listening_line why) faults

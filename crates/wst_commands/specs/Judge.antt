@@ -24,7 +24,8 @@ use Rattle.wst_commands.specs.ReadingWhole.{AnswersInput}
 use Rattle.wst_commands.specs.declared.exit.Exit.{Exit}
 use Rattle.wst_commands.specs.declared.exit.Exit.TheVariants.{Damaged, Done, Failed, WrongWords}
 use Rattle.wst_commands.specs.declared.fault.Fault.{Fault}
-use Rattle.wst_commands.specs.declared.fault.Fault.TheVariants.{CaptureOfClient, NotACapture, NoMemory}
+use Rattle.wst_commands.specs.declared.fault.Fault.TheVariants.{CaptureOfClient, CaptureOfServer, NotACapture}
+use Rattle.wst_commands.specs.declared.fault.Fault.TheVariants.{NoMemory}
 
 -- the verdict in its line
 abbrev pub verdict_line : Verdict → List ℕ
@@ -59,19 +60,28 @@ abbrev pub begins_unmasked : List ℕ → Bool
 begins_unmasked (first ∷ second ∷ rest) = nat_lt second 128
 begins_unmasked _ = false
 
--- the tested end masked its first frame in a turn, as only a client does, and the tester didn't
-abbrev pub is_turn_of_client : Turn → Bool
-is_turn_of_client turn = begins_masked turn.got && begins_unmasked turn.sent
+-- the end that was tested by the first frames of a turn: a client masks its own, and the tester, a server, doesn't; or
+-- the other way round
+abbrev pub end_tested_in : Turn → Option Role
+end_tested_in turn = if begins_masked turn.got && begins_unmasked turn.sent then Some Client
+    else (if begins_unmasked turn.got && begins_masked turn.sent then Some Server else None)
 
--- so it is in the first turn
-abbrev pub is_of_client : List Turn → Bool
-is_of_client [] = false
-is_of_client (turn ∷ turns) = is_turn_of_client turn
+-- by the first turn
+abbrev pub end_tested : List Turn → Option Role
+end_tested [] = None
+end_tested (turn ∷ turns) = end_tested_in turn
 
--- how a run ends that has written a Fail of this end: of a server whose frames are those of a client a hint says so
+-- how a run ends that has written a Fail of this end, where that was tested: of the other one a hint says so
+abbrev pub failed_as : Role → Option Role → Result Exit Fault
+failed_as Server (Some Client) = Err CaptureOfClient
+failed_as Client (Some Server) = Err CaptureOfServer
+failed_as Server (Some Server) = Ok Damaged
+failed_as Server None = Ok Damaged
+failed_as Client (Some Client) = Ok Damaged
+failed_as Client None = Ok Damaged
+
 abbrev pub failed_verdict : Role → Transcript → Result Exit Fault
-failed_verdict Client transcript = Ok Damaged
-failed_verdict Server transcript = if is_of_client transcript.turns then Err CaptureOfClient else Ok Damaged
+failed_verdict tested transcript = failed_as tested (end_tested transcript.turns)
 
 -- the same by the exit of what was written
 abbrev pub ended_verdict : Role → Transcript → Exit → Result Exit Fault

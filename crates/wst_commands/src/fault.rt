@@ -2,7 +2,8 @@
 
 ghost use Rattle.std.specs.Prelude.{◌≡◌};
 ghost use Rattle.wst_commands.specs.Devices.{StaysFailed};
-ghost use Rattle.wst_commands.specs.Faults.{Ends, LacksMemory, TellsFault, TellsLine, not_listening_line};
+ghost use Rattle.wst_commands.specs.Faults.{Ends, LacksMemory, TellsFault, TellsLine, no_capture_words};
+ghost use Rattle.wst_commands.specs.Faults.{not_listening_line};
 ghost use Rattle.wst_commands.specs.declared.fault.Fault.TheVariants as variant;
 ghost use Rattle.ws_frame.specs.Devices.{watched};
 
@@ -70,6 +71,8 @@ pub enum Fault {
     NoCaseLine,
     /// A Fail of a server was written, and its frames are those of a client.
     CaptureOfClient,
+    /// A Fail of a client was written, and its frames are those of a server.
+    CaptureOfServer,
     /// The words of the command line are no text.
     NoText,
     /// The words of the command line ask for nothing.
@@ -165,7 +168,7 @@ pub fn tell_fault<F: Write>(alloc: Global, fault: Fault, faults: &mut Watched<F>
         }
         Fault::NotAMove(line) => tell_line(alloc, line, "not a move", faults),
         Fault::NotACall(line) => tell_line(alloc, line, "not a call", faults),
-        Fault::NotACapture(line) => tell_line(alloc, line, "not a capture", faults),
+        Fault::NotACapture(line) => tell_line(alloc, line, no_capture_words(line), faults),
         Fault::NotAStep(line, damage) => tell_line(alloc, line, damage.words(), faults),
         Fault::NotAVerdict(line, damage) => tell_line(alloc, line, damage.known_words(), faults),
         Fault::NotAResult(line, damage) => tell_line(alloc, line, damage.words(), faults),
@@ -180,6 +183,13 @@ pub fn tell_fault<F: Write>(alloc: Global, fault: Fault, faults: &mut Watched<F>
         Fault::CaptureOfClient => {
             tell(
                 b"the received frames are masked as a client's: to judge a client, add --role client\n",
+                faults,
+            );
+            Exit::Damaged
+        }
+        Fault::CaptureOfServer => {
+            tell(
+                b"the received frames have no mask, as a server's: to judge a server, leave out --role client\n",
                 faults,
             );
             Exit::Damaged
@@ -210,6 +220,17 @@ fn not_listening_line(why: ListenFault) -> &'static [u8]
         ListenFault::AddressInUse => b"not listening: address in use\n",
         ListenFault::NotPermitted => b"not listening: not permitted\n",
         ListenFault::Failed => b"not listening: failed\n",
+    }
+}
+
+/// What is told of the first damaged line of a capture. Of line 1 a second line says which it is.
+fn no_capture_words(line: u64) -> &'static str
+    ensures { result.now ≡ no_capture_words line }
+{
+    if line == 1 {
+        "not a capture\n  line 1 is wst-capture 1 or wst-capture 2, with LF alone at its end"
+    } else {
+        "not a capture"
     }
 }
 

@@ -10,7 +10,7 @@ ghost use Rattle.wst_commands.specs.Explaining.{explanation_lines};
 ghost use Rattle.wst_commands.specs.InnerExplaining.{explained_text};
 ghost use Rattle.wst_commands.specs.Judge.{RunsJudge, TellsJudged, TellsVerdict, TellsVerdictWith, WritesVerdict};
 ghost use Rattle.wst_commands.specs.Judge.{begins_masked, begins_unmasked, capture_fault, ended_verdict, exit_of};
-ghost use Rattle.wst_commands.specs.Judge.{failed_verdict, is_of_client, is_turn_of_client};
+ghost use Rattle.wst_commands.specs.Judge.{end_tested, end_tested_in, failed_verdict};
 
 use crate::exit::Exit;
 use crate::explaining::{Judgement, judgement_of, last_lines};
@@ -59,8 +59,8 @@ pub fn fault_of(fault: CaptureFault) -> Fault
     }
 }
 
-/// Writes the verdict on a transcript, and why it is told where that is asked for. A Fail of a server whose frames are
-/// those of a client is told so.
+/// Writes the verdict on a transcript, and why it is told where that is asked for. A Fail of an end whose frames are
+/// those of the other one is told so.
 fn tell_verdict<W: Write>(
     alloc: Global,
     options: JudgeOptions,
@@ -90,34 +90,39 @@ fn ended_verdict(tested: Role, transcript: &KeptTranscript, exit: Exit) -> Resul
 fn failed_verdict(tested: Role, transcript: &KeptTranscript) -> Result<Exit, Fault>
     ensures { result ≡ failed_verdict tested transcript.now }
 {
-    match tested {
-        Role::Client => Ok(Exit::Damaged),
-        Role::Server => {
-            if is_of_client(transcript) {
-                Err(Fault::CaptureOfClient)
-            } else {
-                Ok(Exit::Damaged)
-            }
+    match (tested, end_tested(transcript)) {
+        (Role::Server, Some(Role::Client)) => Err(Fault::CaptureOfClient),
+        (Role::Client, Some(Role::Server)) => Err(Fault::CaptureOfServer),
+        (Role::Server, Some(Role::Server) | None) | (Role::Client, Some(Role::Client) | None) => {
+            Ok(Exit::Damaged)
         }
     }
 }
 
-/// Whether a transcript is that of a client by its first turn.
-fn is_of_client(transcript: &KeptTranscript) -> bool
-    ensures { result ≡ is_of_client transcript.now.turns }
+/// The end that was tested by the first turn of a transcript. `None` where that doesn't tell it.
+fn end_tested(transcript: &KeptTranscript) -> Option<Role>
+    ensures { result ≡ end_tested transcript.now.turns }
 {
     let mut walk = transcript.as_transcript().turns();
     if walk.len() == 0 {
-        return false;
+        return None;
     }
-    is_turn_of_client(walk.take_first())
+    end_tested_in(walk.take_first())
 }
 
-/// Whether the tested end masked its first frame in a turn, as only a client does, and the tester didn't.
-fn is_turn_of_client(turn: TurnRef<'_>) -> bool
-    ensures { result ≡ is_turn_of_client (lent_turn turn.entry) }
+/// The end that was tested by the masks of a turn: a client masks its frames, and a server doesn't. `None` where one
+/// of them sent no frame, or both are as the other.
+fn end_tested_in(turn: TurnRef<'_>) -> Option<Role>
+    ensures { result ≡ end_tested_in (lent_turn turn.entry) }
 {
-    begins_masked(turn.got) && begins_unmasked(turn.sent)
+    if begins_masked(turn.got) && begins_unmasked(turn.sent) {
+        return Some(Role::Client);
+    }
+    if begins_unmasked(turn.got) && begins_masked(turn.sent) {
+        Some(Role::Server)
+    } else {
+        None
+    }
 }
 
 /// Whether a frame begins here whose header says that it is masked.

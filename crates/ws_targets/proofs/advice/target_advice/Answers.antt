@@ -10,9 +10,9 @@ returns-in-Some c =
     let no_tls : ¬ (IsTrue (begins_with_wss c.args.word.now)) = search rules in
     let no_page : ¬ (IsTrue (begins_as_web c.args.word.now)) = search rules in
     let same : c.as_bytes.result.now ≡ c.args.word.now = c.as_bytes.ensures.value in
-    advised_url c.args.word.now c.in-Some.authority.now c.authority_advice.result no_tls no_page
-    (subst (λ (l : List ℕ). HasScheme l) same c.in-Some.ensures.1)
-    (c.in-Some.ensures.0 ∙ ap (λ (l : List ℕ). authority_of (drop 5 l)) same) c.authority_advice.ensures
+    advised_url c.args.word.now c.as_bytes-in-Some.result.now c.in-Some.authority.now c.url_advice.result no_tls no_page
+    (subst (λ (l : List ℕ). HasScheme l) same c.in-Some.ensures.1) c.as_bytes-in-Some.ensures.value
+    (c.in-Some.ensures.0 ∙ ap (λ (l : List ℕ). authority_of (drop 5 l)) same) c.url_advice.ensures
 
 pub returns-in-None : goal.returns-in-None
 returns-in-None c =
