@@ -498,6 +498,30 @@ def a_long_script_that_is_sent():
     )
 
 
+def an_answer_of_a_client_is_told_before_the_next_step():
+    """It comes late. No buffer holds what is sent next: its line is there while most of that isn't sent."""
+    run = Listening("send", ADDRESS, told="faults", text=b'text "a"\nwait\nbinary 00*8388608\nclose=1000\n')
+    client = run.client()
+    assert client.get(len(text("a"))) == text("a")
+    assert (run.line(), run.line()) == ("turn 1", "> 0 text fin=1 rsv=0 key=- len=1 short 61")
+    time.sleep(0.7)
+    client.send(A_BACK)
+    assert run.line() == "< 0 text fin=1 rsv=0 key=00000000 len=1 short 61"
+    assert run.says_nothing_for(0.3)
+    sent = b"\x82\x7f" + (8388608).to_bytes(8, "big") + bytes(8388608) + CLOSE
+    assert client.get(len(sent)) == sent
+    client.send(CLOSE_BACK)
+    assert client.rest() == b""
+    run.ends(
+        "turn 2",
+        "> 3 binary fin=1 rsv=0 key=- len=8388608 eight 00000000000000000000000000000000..",
+        "> 8388621 close fin=1 rsv=0 key=- len=2 short 03e8",
+        "< 7 close fin=1 rsv=0 key=00000000 len=2 short 03e8",
+        "end tester",
+        faults=NO_ECHO,
+    )
+
+
 def a_frame_that_has_begun():
     """A script without a close ends once what is owed has come: where a frame of the client has begun by then, with that
     frame."""
@@ -711,6 +735,7 @@ TESTS = [
     progress,
     a_script_that_is_sent,
     a_long_script_that_is_sent,
+    an_answer_of_a_client_is_told_before_the_next_step,
     a_frame_that_has_begun,
     a_frame_that_has_begun_is_judged,
     a_sweep_of_a_client,

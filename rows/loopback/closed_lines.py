@@ -87,17 +87,20 @@ def a_script_without_an_input():
 def a_script_without_a_fault_output():
     server = TestedWithout(FAULTS, "send", script=SCRIPT)
     client = server.accepted()
+    assert client.get(len(HELLO)) == HELLO
     client.send(HELLO_BACK)
     client.half_close()
-    assert client.rest() == HELLO
+    assert client.rest() == b""
     server.ends(
         "turn 1\n> 0 text fin=1 rsv=0 key=37fa213d len=5 short 48656c6c6f\n"
         "< 0 text fin=1 rsv=0 key=- len=5 short 48656c6c6f\nend peer\n"
     )
     server = TestedWithout(FAULTS, "send", script=SCRIPT)
     client = server.next()
+    asked = request_to(server.address)
+    assert client.get(len(asked)) == asked
     client.send(BAD_REQUEST)
-    assert client.rest() == request_to(server.address)
+    assert client.rest() == b""
     server.ends("", status=1)
 
 

@@ -18,7 +18,7 @@ SENT_CLOSE = "> 11 close fin=1 rsv=0 key=37fa213d len=2 short 03e8"
 GOT_CLOSE = "< 7 close fin=1 rsv=0 key=- len=2 short 03e8"
 BY_TURNS = f"{TURN_1}\n{SENT_HELLO}\n{GOT_HELLO}\nturn 2\n{SENT_CLOSE}\n{GOT_CLOSE}\nend peer\n"
 BINARY_16_MIB = b"binary 00*16777216\n"
-NO_ECHO = b"the replies are not those of an echo: if the endpoint doesn't echo, add --expect protocol\n"
+NO_ECHO = b"nothing came back, or not what an echo sends: if the endpoint doesn't echo, add --expect protocol\n"
 # A text "hi" of a server (section 5.2).
 GREETING = b"\x81\x02hi"
 GOT_GREETING = "< 0 text fin=1 rsv=0 key=- len=2 short 6869"
@@ -118,6 +118,27 @@ def an_answer_in_the_middle_of_a_turn():
         f"{TURN_1}\n> 0 text fin=1 rsv=0 key=00000000 len=5 short 48656c6c6f\n"
         "> 11 binary fin=1 rsv=0 key=00000000 len=8388608 eight 00000000000000000000000000000000..\n"
         f"{GOT_HELLO}\n< 7 close fin=1 rsv=0 key=- len=2 short 03f1\nend peer\n"
+    )
+
+
+def an_answer_is_told_before_the_next_step():
+    """It comes late. No buffer holds what is sent next: its line is there while most of that isn't sent."""
+    server = Sent(b'text "Hello"\nwait\nbinary 00*8388608\n', "--key", "00000000")
+    client = server.accepted(RESPONSE)
+    hello = b"\x81\x85" + bytes(4) + b"Hello"
+    assert client.get(len(hello)) == hello
+    assert (server.line(), server.line()) == (TURN_1, SENT_HELLO.replace("37fa213d", "00000000"))
+    time.sleep(0.7)
+    client.send(HELLO_BACK)
+    assert server.line() == GOT_HELLO
+    assert server.says_nothing_for(0.3)
+    frame = binary(8388608)
+    assert client.get(len(frame)) == frame
+    client.send(FAILED_1009)
+    client.close()
+    server.ends(
+        "turn 2\n> 11 binary fin=1 rsv=0 key=00000000 len=8388608 eight 00000000000000000000000000000000..\n"
+        "< 7 close fin=1 rsv=0 key=- len=2 short 03f1\nend peer\n"
     )
 
 
@@ -377,6 +398,27 @@ def examples_of_the_help():
         assert ran.stdout.startswith(b"turn 1\n> 0 ") and b"\n< 0 " in ran.stdout, (example, ran)
 
 
+def two_large_texts_at_an_echo():
+    """One that writes before it reads on: what comes is read while a turn is written."""
+    with_length = "len=8388608 eight 2a2a2a2a2a2a2a2a2a2a2a2a2a2a2a2a.."
+    echo = Server(1, "--limit=16777216")
+    process = start("send", "--timeout=9", echo.address, stdin=subprocess.PIPE)
+    script = b"text 2a*8388608\ntext 2a*8388608\nclose=1000\n"
+    output, faults = process.communicate(script, timeout=6 * SECONDS)
+    lines = [
+        TURN_1,
+        f"> 0 text fin=1 rsv=0 key=37fa213d {with_length}",
+        f"> 8388622 text fin=1 rsv=0 key=37fa213d {with_length}",
+        "> 16777244 close fin=1 rsv=0 key=37fa213d len=2 short 03e8",
+        f"< 0 text fin=1 rsv=0 key=- {with_length}",
+        f"< 8388618 text fin=1 rsv=0 key=- {with_length}",
+        "< 16777236 close fin=1 rsv=0 key=- len=2 short 03e8",
+        "end peer",
+    ]
+    assert (process.returncode, faults) == (0, b"")
+    assert output.decode() == "".join(f"{line}\n" for line in lines), output
+
+
 def more_than_memory():
     """A megabyte of text that asks for 800 GB."""
     script = b"binary 00*16777216\n" * 50000
@@ -394,6 +436,7 @@ TESTS = [
     single_bytes,
     two_frames_in_a_turn,
     an_answer_in_the_middle_of_a_turn,
+    an_answer_is_told_before_the_next_step,
     a_frame_before_anything_was_sent,
     an_end_inside_a_frame,
     a_server_that_greets,
@@ -417,5 +460,6 @@ TESTS = [
     our_own_server,
     each_case_as_a_script,
     examples_of_the_help,
+    two_large_texts_at_an_echo,
     more_than_memory,
 ]

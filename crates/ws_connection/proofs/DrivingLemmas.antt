@@ -25,45 +25,15 @@ use Rattle.ws_connection.specs.Probing.{FollowsInOrder}
 use Rattle.ws_connection.specs.RunSteps.{IsToldAll, RunStep, WasRead, calls_in, turns_told}
 use Rattle.ws_connection.specs.RunSteps.RunStep.{Calls}
 use Rattle.ws_connection.specs.Stages.{BeginsSomeRun, IsTelling, RunsOnStage}
-use Rattle.ws_connection.specs.InnerDriving.{DrivesSo, IsPartOf}
-use Rattle.ws_connection.specs.InnerDriving.{IsToldOfRun, MayBeToldMore, ServedOnStage, TellsRun}
-use Rattle.ws_connection.specs.declared.probing.telling.TurnsTold.{TurnsTold}
+use Rattle.ws_connection.specs.InnerDriving.{DrivesSo}
+use Rattle.ws_shown.specs.TurnsTold.{IsPartOf}
+use Rattle.ws_connection.specs.InnerDriving.{MayBeToldMore, ServedOnStage, TellsRun}
+use Rattle.ws_shown.specs.TurnsTold.{IsToldOfRun}
+use Rattle.ws_shown.specs.declared.turns_told.TurnsTold.{TurnsTold}
 use Rattle.ws_connection.proofs.StepLemmas.{calls_then, in_time_then, no_call_in_time, told_then}
 use Rattle.ws_connection.proofs.TellingLemmas.{may_hearing, may_in_turn}
-use Rattle.ws_connection.proofs.GrowthLemmas.{hears_on, leads_goes, told_goes}
-
--- ---- what holds of a run that hasn't ended
-
-pub running_holds : OneStanding → (run : ScriptValue) (start now : RunState) (told : List Told) → HaveBytes run.script
-    → BeginsRun run start → Follows start now told → now.ended ≡ None → HoldsSo run told now
-running_holds one run start now told pieces (standing, stands, begins) follows going = pick run.script refl begins
-  where
-    ended : start ≡ with_run_end Tester (first_state run (is_server_close run.plan.tested standing))
-        → start.ended ≡ Some Tester
-    ended same = ap (λ (y : RunState). y.ended) same
-
-    never : (told : List Told) → start.ended ≡ Some Tester → Follows start now told → HoldsSo run told now
-    never [] e same = absurd (let wrong : Some Tester ≡ None =
-        sym e ∙ (sym (ap (λ (y : RunState). y.ended) same) ∙ going) in cc)
-    never (event ∷ told) e (next, happens, rest) =
-        absurd (let wrong : Some Tester ≡ None = sym e ∙ happens.goes in cc)
-
-    pick : (script : List Pieces) → run.script ≡ script
-        → BeginsBy script (first_state run (is_server_close run.plan.tested standing)) start → HoldsSo run told now
-    pick [] e same = never told (ended same) follows
-    pick (first ∷ others) e settles = follows_so one run [] start now told (settled one run []
-        (first_state run (is_server_close run.plan.tested standing)) start refl (begins_so run first others standing
-        stands (subst (λ (l : List Pieces). HaveBytes l) e pieces) e) settles) follows
-
--- ---- one call
-
--- what happened to a tester that was told one thing
-pub one_event : (x y : TesterValue) (event : Told) → ShowsTurns x → Extends WasTold x y (event ∷ [])
-    → Happens x.run event y.run
-one_event x y event shows told = pick (told x [] (refl, shows)).0
-  where
-    pick : (next : RunState) × Happens x.run event next × (y.run ≡ next) → Happens x.run event y.run
-    pick (next, happens, same) = subst (λ (s : RunState). Happens x.run event s) (sym same) happens
+use Rattle.ws_shown.proofs.GrowthLemmas.{hears_on, leads_goes, told_goes}
+use Rattle.ws_shown.proofs.RunLemmas.{one_event, running_holds}
 
 -- some events in order, and then others
 pub order_then : (a b c : RunState) (xs ys : List Told) → FollowsInOrder a b xs → FollowsInOrder b c ys
@@ -264,12 +234,3 @@ module _ {S : Type 0} (did : S → S → List RunStep → Type 0) (start : Teste
       pick : (b : Bool) → x.run.begun ≡ b → turns_told [] d.drives.steps ≡ recorded x.run
       pick true e = all e no_write_left ∙ sym (ap (λ (c : Bool). if c then turns_of_run x.run else []) e)
       pick false e = d.none e ∙ sym (ap (λ (c : Bool). if c then turns_of_run x.run else []) e)
-
--- a run that isn't done hasn't ended
-pub not_ended : (x : RunState) → (wanted_in x).done ≡ false → x.ended ≡ None
-not_ended x undone = pick x.ended refl
-  where
-    pick : (ended : Option Ended) → x.ended ≡ ended → x.ended ≡ None
-    pick None e = e
-    pick (Some how) e = absurd (let wrong : true ≡ false =
-        sym (ap (λ (o : Option Ended). is_some o) e) ∙ undone in cc)

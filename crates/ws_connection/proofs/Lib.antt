@@ -6,7 +6,6 @@ pub mod StreamLaws
 pub mod StepLemmas
 pub mod StageLemmas
 pub mod TellingLemmas
-pub mod GrowthLemmas
 pub mod DrivingLemmas
 pub mod ProbingLemmas
 pub mod OpeningLemmas

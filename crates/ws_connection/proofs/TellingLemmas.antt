@@ -8,12 +8,13 @@ use Rattle.ws_scripts.specs.declared.transcript.Turn.{Turn}
 use Rattle.ws_suite.specs.Growing.{turn_with_got}
 use Rattle.ws_machines.specs.Told.{Told}
 use Rattle.ws_tester.specs.RunStates.{RunState, wanted_in}
-use Rattle.ws_connection.specs.InnerDriving.{IsPartOf, IsToldAtTurn, IsToldInPast, IsToldOfRun, IsToldSoFar, MayBeToldMore}
+use Rattle.ws_connection.specs.InnerDriving.{MayBeToldMore}
+use Rattle.ws_shown.specs.TurnsTold.{IsPartOf, IsToldAtTurn, IsToldInPast, IsToldOfRun, IsToldSoFar}
 use Rattle.ws_connection.specs.InnerDriving.{TellsMore, TellsPast, TellsRun}
 use Rattle.ws_connection.specs.RunSteps.{RunStep, calls_in, turns_told, with_last_got}
 use Rattle.ws_connection.specs.RunSteps.RunStep.{TellsSent, TellsGot}
 use Rattle.ws_connection.specs.Stages.{ExtendsBy, ExtendsTurn, IsStaged, IsTelling}
-use Rattle.ws_connection.specs.declared.probing.telling.TurnsTold.{TurnsTold}
+use Rattle.ws_shown.specs.declared.turns_told.TurnsTold.{TurnsTold}
 use Rattle.ws_connection.proofs.StepLemmas.{calls_then, last_got, told_then}
 
 -- a turn is what it has sent and got

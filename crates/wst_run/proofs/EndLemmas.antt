@@ -1,16 +1,19 @@
 -- A run over the end that a plan names is one over what it tests.
-use Rattle.std.proofs.Common.{◌≡◌, List, ℕ, Result, Ok, Err, subst}
+use Rattle.std.proofs.Common.{◌≡◌, List, ℕ, Bool, true, false, Result, Ok, Err, subst}
 use Rattle.std.specs.Borrow.{Bor}
 use Rattle.ws_frame.specs.Devices.{Device}
 use Rattle.ws_reports.specs.Reports.{ReportValue}
+use Rattle.ws_scripts.specs.declared.script.Case.{Case}
 use Rattle.wst_commands.specs.declared.exit.Exit.{Exit}
-use Rattle.wst_testing.specs.Ends.{IsEndOfPlan, MeetsEnd, MeetsEndByCalls}
+use Rattle.wst_testing.specs.Ends.{IsEndOfPlan, MeetsEnd, MeetsEndShown}
+use Rattle.wst_testing.specs.Servers.{MeetsInMemory}
+use Rattle.wst_sockets.specs.declared.meeting.Meeting.{Meeting}
 use Rattle.wst_testing.specs.declared.runner.End.{End}
 use Rattle.wst_testing.specs.declared.run_plans.TestedEnd.{TestedEnd}
 use Rattle.wst_testing.specs.declared.run_plans.TestedEnd.TheVariants.{Clients, Memory, Server}
 use Rattle.wst_run.specs.ClientRuns.{SendsToClientAt, TestsClientsAt}
 use Rattle.wst_run.specs.ClientSweeps.{SweepsClientsAt}
-use Rattle.wst_run.specs.Send.{RunsSendPlan, SendsOver}
+use Rattle.wst_run.specs.Send.{MeetsAs, RunsSendPlan, SendsOver}
 use Rattle.wst_run.specs.Sweep.{RunsSweepPlan, SweepsOver}
 use Rattle.wst_run.specs.Test.{RunsPlan, RunsPlanOver}
 use Rattle.wst_run.specs.declared.send.SendPlan.{SendPlan}
@@ -71,16 +74,26 @@ sweeps_clients {N} {C} (Clients given) plan named address exit output faults sam
 
 -- ---- send
 
+-- where both meet cases so, it is one
+meets_once : (asks : Bool) (Meets : Case → Meeting → Type 0) (plan : SendPlan) (exit : Exit)
+    (input output faults : Device) → RunsSendPlan (MeetsAs asks Meets Meets) plan exit input output faults
+    → RunsSendPlan Meets plan exit input output faults
+meets_once true Meets plan exit input output faults h = h
+meets_once false Meets plan exit input output faults h = h
+
+abbrev MeetsNamed : {N C : Type 0} → SendPlan → End N C → Case → Meeting → Type 0
+MeetsNamed plan end = MeetsAs plan.capture (λ case meeting. MeetsEnd end plan.run.key case meeting)
+    (λ case meeting. MeetsEndShown end plan.run.key case meeting)
+
 pub sends_end : {N C : Type 0} (tested : TestedEnd) (plan : SendPlan) (end : End N C)
     (exit : Exit) (input output faults : Device) → IsEndOfPlan plan.run tested (Ok end)
-    → RunsSendPlan (λ case meeting. MeetsEndByCalls end plan.run.key case meeting) plan exit input output faults
+    → RunsSendPlan (MeetsNamed plan end) plan exit input output faults
     → SendsOver tested plan exit input output faults
 sends_end {N} {C} (Memory memory) plan end exit input output faults is h =
-    subst (λ (e : End N C). RunsSendPlan (λ case meeting. MeetsEndByCalls e plan.run.key case meeting) plan exit input output faults)
-    is h
+    meets_once plan.capture (λ case meeting. MeetsInMemory memory plan.run.key case meeting) plan exit input output faults
+    (subst (λ (e : End N C). RunsSendPlan (MeetsNamed plan e) plan exit input output faults) is h)
 sends_end {N} {C} (Server target) plan end exit input output faults is h =
-    subst (λ (e : End N C). RunsSendPlan (λ case meeting. MeetsEndByCalls e plan.run.key case meeting) plan exit input output faults)
-    is h
+    subst (λ (e : End N C). RunsSendPlan (MeetsNamed plan e) plan exit input output faults) is h
 sends_end (Clients address) plan end exit input output faults is h = absurd is
 
 pub sends_clients : {N C : Type 0} (tested : TestedEnd) (plan : SendPlan)

@@ -173,8 +173,8 @@ WritesClientRun style true transcript output =
 abbrev pub MayTellMissed : Expectation → Role → Transcript → Bool → Type 0
 MayTellMissed expected tested transcript missed = (missed ≡ true) → MissesEcho expected tested transcript true
 
--- Behind what was told of the connections it is told what to type, where an echo is expected and the replies are those
--- of none; behind a capture it isn't.
+-- Behind what was told of the connections it may be told what to type, and only where an echo is expected and the
+-- replies are none of one; behind a capture it isn't.
 abbrev pub HintsBehind : Bool → Expectation → Transcript → (Device → Type 0) → Device → Type 0
 HintsBehind true expected transcript Runs faults = Runs faults
 HintsBehind false expected transcript Runs faults = (missed : Bool) × MayTellMissed expected Client transcript missed

@@ -32,10 +32,11 @@ use Rattle.wst_testing.specs.Tried.{missed_notes}
 use Rattle.ws_handshake.specs.declared.probe_end.HeadRefusal.{HeadRefusal}
 use Rattle.wst_testing.specs.RunPlans.{IsRunPlan, CanNotRun, TellsRefusal, tested_role}
 use Rattle.wst_testing.specs.declared.run_plans.UsualTimes.TheVariants.{OfScript}
-use Rattle.wst_testing.specs.Servers.{MeetsInMemory, MeetsTargetByCalls}
+use Rattle.wst_testing.specs.Servers.{MeetsAtTarget, MeetsInMemory, ShowsTarget}
 use Rattle.wst_testing.specs.declared.run_plans.Refusal.{Refusal}
 use Rattle.wst_testing.specs.declared.run_plans.TestedEnd.{TestedEnd}
 use Rattle.wst_testing.specs.declared.run_plans.TestedEnd.TheVariants.{Clients, Memory, Server}
+use Rattle.wst_sockets.specs.declared.meeting.ConnectFault.TheVariants as why
 use Rattle.wst_sockets.specs.declared.meeting.Meeting.{Meeting}
 use Rattle.wst_sockets.specs.declared.meeting.Meeting.TheVariants.{NoConnection, Ran, Refused}
 use Rattle.wst_run.specs.declared.send.SendPlan.{SendPlan}
@@ -65,6 +66,11 @@ WritesRun plan transcript output =
     × HasWritten (written_capture2 (run_capture (tested_role plan.run.tested) plan.run.key transcript)) output
     × (output.failed ≡ false))
 
+-- an end meets a case as for a capture; or as where its lines are written
+abbrev pub MeetsAs : Bool → (Case → Meeting → Type 0) → (Case → Meeting → Type 0) → Case → Meeting → Type 0
+MeetsAs true Captures Shows case meeting = Captures case meeting
+MeetsAs false Captures Shows case meeting = Shows case meeting
+
 -- a beginning of the capture of a run was written, where one is asked for; of lines it is not said what was written
 abbrev pub HasBegunRun : (Case → Meeting → Type 0) → SendPlan → Case → Device → Type 0
 HasBegunRun Meets plan case output = (plan.capture ≡ true) → (transcript : Transcript) × Meets case (Ran transcript)
@@ -72,12 +78,14 @@ HasBegunRun Meets plan case output = (plan.capture ≡ true) → (transcript : T
 
 -- Why a script was not run to its end, over one of the ends that meet cases so: the output has failed; or memory ran
 -- out, and nothing was written of a capture; or there is no connection, or its answer is refused, and nothing was
--- written.
+-- written; or no capture is asked for, and the network could not be waited for: so there may be no connection.
 abbrev pub StopsSending : (Case → Meeting → Type 0) → SendPlan → Case → SendStop → Device → Type 0
 StopsSending Meets plan case stop.Device output = (output.failed ≡ true) × HasBegunRun Meets plan case output
 StopsSending Meets plan case (stop.NotAStep line damage) output = ⊥
 StopsSending Meets plan case (stop.Refused refusal) output = Meets case (Refused refusal) × IsUntouched output
-StopsSending Meets plan case (stop.NoConnection why) output = Meets case (NoConnection why) × IsUntouched output
+StopsSending Meets plan case (stop.NoConnection reason) output =
+    Meets case (NoConnection reason) × IsUntouched output
+StopsSending Meets plan case stop.Network output = (plan.capture ≡ false) × Meets case (NoConnection why.Failed)
 StopsSending Meets plan case stop.NoMemory output = (plan.capture ≡ true) → IsUntouched output
 
 -- It may be told that the replies are none of an echo; behind a capture that is not asked.
@@ -85,8 +93,8 @@ abbrev pub MissesEchoIn : Bool → Expectation → Role → Transcript → Bool 
 MissesEchoIn true expected tested transcript missed = missed ≡ false
 MissesEchoIn false expected tested transcript missed = MayTellMissed expected tested transcript missed
 
--- the script was run over one of the ends that meet cases so, that was written, and whether it misses an echo; or why
--- not
+-- the script was run over one of the ends that meet cases so, that was written, and it may be told that the replies are
+-- none of an echo, only where that is so; or why not
 abbrev pub SendsCase : (Case → Meeting → Type 0) → SendPlan → Case → Result Bool SendStop → Device → Type 0
 SendsCase Meets plan case ended output = MatchResult ended
     (λ missed. (transcript : Transcript) × Meets case (Ran transcript) × WritesRun plan transcript output
@@ -142,7 +150,9 @@ TellsSendEnd end (Ok missed) exit faults = (exit ≡ Done) × TellsEach (missed_
 TellsSendEnd end (Err stop.Device) exit faults = (exit ≡ Failed) × IsUntouched faults
 TellsSendEnd end (Err (stop.NotAStep line damage)) exit faults = TellsFault (fault.NotAStep line damage) exit faults
 TellsSendEnd end (Err (stop.Refused refusal)) exit faults = TellsRefused refusal exit faults
-TellsSendEnd end (Err (stop.NoConnection why)) exit faults = (exit ≡ Failed) × TellsEach (missed_notes end why) faults
+TellsSendEnd end (Err (stop.NoConnection reason)) exit faults =
+    (exit ≡ Failed) × TellsEach (missed_notes end reason) faults
+TellsSendEnd end (Err stop.Network) exit faults = (exit ≡ Failed) × TellsEach (missed_notes end why.Failed) faults
 TellsSendEnd end (Err stop.NoMemory) exit faults = LacksMemory exit faults
 
 -- ---- a run
@@ -158,7 +168,8 @@ abbrev pub SendsOver : TestedEnd → SendPlan → Exit → Device → Device →
 SendsOver (Memory end) plan exit input output faults =
     RunsSendPlan (MeetsInMemory end plan.run.key) plan exit input output faults
 SendsOver (Server target) plan exit input output faults =
-    RunsSendPlan (MeetsTargetByCalls target plan.run) plan exit input output faults
+    RunsSendPlan (MeetsAs plan.capture (MeetsAtTarget target plan.run) (ShowsTarget target plan.run)) plan exit input
+    output faults
 SendsOver (Clients address) plan exit input output faults =
     SendsToClientAt address.now plan exit input output faults
 

@@ -16,7 +16,8 @@ use Rattle.wst_sockets.specs.Tapping.{TapsPairs}
 use Rattle.wst_testing.specs.RunPlans.{IsUrl}
 use Rattle.ws_targets.specs.Advice.{Advises}
 use Rattle.ws_targets.specs.declared.advice.Advice.{Advice}
-use Rattle.ws_targets.specs.declared.advice.Advice.TheVariants.{Encrypted, Nothing, Port, Url, User, Web}
+use Rattle.ws_targets.specs.declared.advice.Advice.TheVariants.{Encrypted, Fragment, Nothing, Port}
+use Rattle.ws_targets.specs.declared.advice.Advice.TheVariants.{Unencoded, Url, User, Web}
 use Rattle.wst_run.specs.declared.tap.TapRefusal.{TapRefusal}
 use Rattle.wst_run.specs.declared.tap.TapRefusal.TheVariants.{BadListen, BadTarget, NoMemory}
 
@@ -68,6 +69,8 @@ tap_target_text User = codes "bad address\n  no user before the host: ws://HOST:
 tap_target_text Port =
     codes "bad address\n  a port is at most 65535, and 80 without one: ws://HOST:PORT/PATH\n"
 tap_target_text Web = codes "bad address\n  TARGET is HOST:PORT or ws://HOST:PORT/PATH\n"
+tap_target_text Unencoded = codes "bad address\n  TARGET is HOST:PORT or ws://HOST:PORT/PATH\n"
+tap_target_text Fragment = codes "bad address\n  TARGET is HOST:PORT or ws://HOST:PORT/PATH\n"
 tap_target_text Url = codes "bad address\n  TARGET is HOST:PORT or ws://HOST:PORT/PATH\n"
 tap_target_text Nothing = codes "bad address\n  TARGET is HOST:PORT or ws://HOST:PORT/PATH\n"
 

@@ -12,7 +12,7 @@ ghost use Rattle.wst_run.specs.ClientRuns.{HintsClient, IsDamageFault, SendsAt, 
 ghost use Rattle.wst_run.specs.ClientRuns.{SendsTextAt, SendsToClientAt, TestsAt, TestsBehind, TestsClientsAt};
 ghost use Rattle.wst_run.specs.ClientRuns.{TestsToldAt, client_showing};
 ghost use Rattle.wst_clients.specs.ClientSends.{protocols_known};
-ghost use Rattle.wst_testing.specs.LineWriting.{HasToldMarked};
+ghost use Rattle.ws_shown.specs.MarkedLines.{HasToldMarked};
 ghost use Rattle.wst_testing.specs.Notes.{TellsEach};
 ghost use Rattle.wst_sockets.specs.Accepting.{client_wait};
 ghost use Rattle.wst_sockets.specs.Serve.{listening_line};
@@ -28,6 +28,7 @@ use ws_connection::Silent;
 use ws_frame::{DataStyle, Watched};
 use ws_lines::Showing;
 use ws_reports::Report;
+use ws_shown::MarkedLines;
 use ws_suite::{Case, Expectation, Transcript, read_script};
 use ws_wire::Role;
 use wst_clients::{
@@ -37,7 +38,7 @@ use wst_commands::{Exit, Fault, ReadStop, deliver, end_run, read_whole, step_dam
 use wst_sockets::{
     ListenerClients, Network, Waits, listen, listening_line, tell_listening, told_address,
 };
-use wst_testing::{LineStop, LineWriter, MarkedLines, RunPlan, capture_text, tell_missed_echo};
+use wst_testing::{LineStop, LineWriter, RunPlan, capture_text, tell_missed_echo};
 
 /// Listens at an address, which is told in a line, with the port that the system chose in the place of a port 0, and
 /// tests the clients that come, as a plan asks, and tells of them as a report does. Where a capture or a document is
@@ -436,7 +437,7 @@ fn script_told<N: Network, W: Write, F: Write>(
         }
         Ok(None) => Ok(Exit::Failed),
         Err(LineStop::Output) if writer.failed() => Ok(Exit::Failed),
-        Err(LineStop::Output | LineStop::NoMemory) => Err(Fault::NoMemory),
+        Err(LineStop::Output | LineStop::NoMemory | LineStop::Network) => Err(Fault::NoMemory),
     }
 }
 

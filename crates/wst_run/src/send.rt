@@ -1,22 +1,22 @@
 //! The command `send`: what is to be run, and its run over an end. Its lines are told in docs/FORMATS.md.
 
-ghost use Rattle.std.specs.Prelude.{◌≡◌, [], MatchResult, OnErr, OnOk, true, false};
+ghost use Rattle.std.specs.Prelude.{◌≡◌, MatchResult, OnErr, OnOk, true, false};
 ghost use Rattle.ws_frame.specs.Devices.{watched};
 ghost use Rattle.ws_frame.specs.Watching.{has_failed};
 ghost use Rattle.ws_scripts.specs.Scripts.{CanBeRun};
 ghost use Rattle.wst_testing.specs.RunPlans.{CanNotRun};
-ghost use Rattle.wst_run.specs.Send.{IsSendPlan, RunsSendPlan, SendsCase, SendsInput, SendsOver, SendsText};
+ghost use Rattle.wst_run.specs.Send.{IsSendPlan, MeetsAs, RunsSendPlan, SendsCase, SendsInput, SendsOver};
+ghost use Rattle.wst_run.specs.Send.{SendsText};
 ghost use Rattle.wst_commands.specs.Devices.{StaysFailed};
 ghost use Rattle.wst_run.specs.ClientRuns.{MayTellMissed, NotesCodes};
 ghost use Rattle.wst_run.specs.Send.{IsDamageStop, TellsRefused, TellsSendEnd, send_showing};
-ghost use Rattle.wst_testing.specs.LineWriting.{HasToldMarked};
 ghost use Rattle.wst_run.specs.declared.send.SendStop.TheVariants as stop;
 
 use crate::clients_at::send_to_clients_at;
 use std::alloc::Global;
 use std::io::{Read, Write};
 use ws_base::{NoMemory, TextFault};
-use ws_connection::{HeadRefusal, Silent};
+use ws_connection::HeadRefusal;
 use ws_frame::{DataStyle, Watched, WriteFault, write_whole};
 use ws_lines::Showing;
 use ws_suite::{Case, Expectation, Transcript, read_script};
@@ -27,8 +27,8 @@ use wst_commands::{
 use wst_network::Connector;
 use wst_sockets::{ConnectFault, Meeting, Network};
 use wst_testing::{
-    CaseServer, End, LineStop, LineWriter, MarkedLines, Refusal, RunPlan, TestedEnd, UsualTimes,
-    capture_text, misses_echo, plan_run, refused_lines, tell_missed, tell_missed_echo,
+    CaseServer, End, LineStop, Refusal, RunPlan, TestedEnd, UsualTimes, capture_text, misses_echo,
+    plan_run, refused_lines, tell_missed, tell_missed_echo,
 };
 use wst_words::SendOptions;
 
@@ -54,6 +54,8 @@ pub enum SendStop {
     Refused(HeadRefusal),
     /// There is no connection to the tested end, or no whole answer came.
     NoConnection(ConnectFault),
+    /// The network could not be waited for. Some lines may have been written.
+    Network,
     /// Memory ran out.
     NoMemory,
 }
@@ -122,7 +124,8 @@ pub fn send_to<S: CaseServer, R: Read, W: Write, F: Write>(
 ) -> Exit
     requires reader_works { has_failed reader.old ≡ false }
     requires writer_works { has_failed writer.old ≡ false }
-    ensures { RunsSendPlan (S.meets_told server.now plan.now.run.key) plan.now result
+    ensures { RunsSendPlan (MeetsAs plan.now.capture (S.meets server.now plan.now.run.key)
+        (S.meets_shown server.now plan.now.run.key)) plan.now result
         (watched R.remaining reader.old reader.new) (watched W.contents writer.old writer.new)
         (watched F.contents faults.old faults.new) }
 {
@@ -142,7 +145,8 @@ fn send_input<S: CaseServer, R: Read, W: Write, F: Write>(
 ) -> Result<bool, SendStop>
     requires reader_works { has_failed reader.old ≡ false }
     requires writer_works { has_failed writer.old ≡ false }
-    ensures { SendsInput (S.meets_told server.now plan.now.run.key) plan.now result
+    ensures { SendsInput (MeetsAs plan.now.capture (S.meets server.now plan.now.run.key)
+        (S.meets_shown server.now plan.now.run.key)) plan.now result
         (watched R.remaining reader.old reader.new) (watched W.contents writer.old writer.new)
         (watched F.contents faults.old faults.new) }
 {
@@ -163,7 +167,8 @@ fn send_text<S: CaseServer, W: Write, F: Write>(
     faults: &mut Watched<F>,
 ) -> Result<bool, SendStop>
     requires { has_failed writer.old ≡ false }
-    ensures { SendsText (S.meets_told server.now plan.now.run.key) plan.now text.now result
+    ensures { SendsText (MeetsAs plan.now.capture (S.meets server.now plan.now.run.key)
+        (S.meets_shown server.now plan.now.run.key)) plan.now text.now result
         (watched W.contents writer.old writer.new) (watched F.contents faults.old faults.new) }
 {
     match read_script(alloc, text) {
@@ -201,7 +206,8 @@ fn send_case<S: CaseServer, W: Write>(
 ) -> Result<bool, SendStop>
     requires works { has_failed writer.old ≡ false }
     requires runs { CanBeRun case.now }
-    ensures { SendsCase (S.meets_told server.now plan.now.run.key) plan.now case.now result
+    ensures { SendsCase (MeetsAs plan.now.capture (S.meets server.now plan.now.run.key)
+        (S.meets_shown server.now plan.now.run.key)) plan.now case.now result
         (watched W.contents writer.old writer.new) }
 {
     if plan.capture {
@@ -232,10 +238,10 @@ fn send_captured<S: CaseServer, W: Write>(
     requires works { has_failed writer.old ≡ false }
     requires runs { CanBeRun case.now }
     requires captures { plan.now.capture ≡ true }
-    ensures { SendsCase (S.meets_told server.now plan.now.run.key) plan.now case.now result
+    ensures { SendsCase (S.meets server.now plan.now.run.key) plan.now case.now result
         (watched W.contents writer.old writer.new) }
 {
-    match server.run_told(alloc, case, plan.run.key, &mut Silent)? {
+    match server.run(alloc, case, plan.run.key)? {
         Meeting::Ran(transcript) => {
             let tested = plan.run.tested.role();
             let text = capture_text(alloc, tested, plan.run.key, transcript)?;
@@ -260,38 +266,18 @@ fn send_shown<S: CaseServer, W: Write>(
     requires works { has_failed writer.old ≡ false }
     requires runs { CanBeRun case.now }
     requires shows { plan.now.capture ≡ false }
-    ensures { SendsCase (S.meets_told server.now plan.now.run.key) plan.now case.now result
-        (watched W.contents writer.old writer.new) }
-{
-    let mut parts = MarkedLines::new(alloc, shown_so(plan));
-    send_told(alloc, server, plan, case, &mut parts, writer)
-}
-
-/// Does that with the lines of a transcript of which no turn has begun.
-fn send_told<S: CaseServer, W: Write>(
-    alloc: Global,
-    server: &S,
-    plan: &SendPlan<'_>,
-    case: &Case,
-    parts: &mut MarkedLines,
-    writer: &mut Watched<W>,
-) -> Result<bool, SendStop>
-    requires works { has_failed writer.old ≡ false }
-    requires runs { CanBeRun case.now }
-    requires shows { plan.now.capture ≡ false }
-    requires begun { HasToldMarked (send_showing plan.now) parts.old [] [] }
-    ensures { SendsCase (S.meets_told server.now plan.now.run.key) plan.now case.now result
+    ensures { SendsCase (S.meets_shown server.now plan.now.run.key) plan.now case.now result
         (watched W.contents writer.old writer.new) }
 {
     let showing = shown_so(plan);
-    let mut lines = LineWriter::new(alloc, showing, parts, writer);
-    match server.run_told(alloc, case, plan.run.key, &mut lines) {
+    match server.run_shown(alloc, case, plan.run.key, showing, writer) {
         Ok(Meeting::Ran(transcript)) => {
             Ok(missed_echo(alloc, showing.tested, plan.run.expected, &transcript))
         }
         Ok(Meeting::Refused(refusal)) => Err(SendStop::Refused(refusal)),
         Ok(Meeting::NoConnection(why)) => Err(SendStop::NoConnection(why)),
         Err(LineStop::Output) if writer.failed() => Err(SendStop::Device),
+        Err(LineStop::Network) => Err(SendStop::Network),
         Err(LineStop::Output | LineStop::NoMemory) => Err(SendStop::NoMemory),
     }
 }
@@ -346,6 +332,10 @@ fn tell_end<F: Write>(
         Err(SendStop::Refused(refusal)) => tell_refused(alloc, refusal, faults),
         Err(SendStop::NoConnection(why)) => {
             tell_missed(tested, why, faults);
+            Exit::Failed
+        }
+        Err(SendStop::Network) => {
+            tell_missed(tested, ConnectFault::Failed, faults);
             Exit::Failed
         }
         Err(SendStop::NoMemory) => tell_fault(alloc, Fault::NoMemory, faults),

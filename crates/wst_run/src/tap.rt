@@ -118,7 +118,7 @@ fn tap_target_text(advice: Advice) -> &'static [u8]
         Advice::User => b"bad address\n  no user before the host: ws://HOST:PORT/PATH\n",
         Advice::Port =>
             b"bad address\n  a port is at most 65535, and 80 without one: ws://HOST:PORT/PATH\n",
-        Advice::Web | Advice::Url | Advice::Nothing =>
+        Advice::Web | Advice::Unencoded | Advice::Fragment | Advice::Url | Advice::Nothing =>
             b"bad address\n  TARGET is HOST:PORT or ws://HOST:PORT/PATH\n",
     }
 }

@@ -6,9 +6,8 @@ pub mod ReporterLemmas
 pub mod CapturerLemmas
 pub mod PlanLemmas
 pub mod ReportLemmas
-pub mod TargetLemmas
 pub mod LoopLemmas
-pub mod ObserverLemmas
+pub mod OutputLemmas
+pub mod ShownLoopLemmas
 pub mod LineLemmas
-pub mod MarkedTellings
 pub mod SweepLemmas

@@ -13,10 +13,10 @@ use Rattle.ws_scripts.specs.declared.transcript.Ended.{Ended}
 use Rattle.ws_scripts.specs.declared.transcript.Transcript.{Transcript}
 use Rattle.ws_lines.specs.Telling.{begun_turn, with_got}
 use Rattle.ws_lines.specs.declared.transcript_lines.Showing.{Showing}
-use Rattle.wst_testing.specs.LineWriting.{AreCounted, BeginsMarked, EndsMarked, GetsMarked, HasToldMarked}
+use Rattle.ws_shown.specs.MarkedLines.{AreCounted, BeginsMarked, EndsMarked, GetsMarked, HasToldMarked}
 use Rattle.wst_testing.specs.LineWriting.{HasWrittenRun, HasWrittenTurns}
-use Rattle.wst_testing.specs.declared.line_writer.Places.{Places}
-use Rattle.wst_testing.specs.declared.marked_lines.MarkedLines.{MarkedLines}
+use Rattle.ws_shown.specs.declared.places.Places.{Places}
+use Rattle.ws_shown.specs.declared.marked_lines.MarkedLines.{MarkedLines}
 
 -- how long one direction is with one turn more
 one_longer : (bytes : Turn → List ℕ) (turns : List Turn) (turn : Turn)

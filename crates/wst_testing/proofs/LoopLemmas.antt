@@ -8,11 +8,11 @@ use Rattle.ws_loops.specs.Deeds.{Deed, Happened, HasDone, all_done, done_by}
 use Rattle.ws_loops.specs.Slots.{AreSteps, IsStep}
 use Rattle.ws_loops.specs.declared.slot.Slot.{Slot}
 use Rattle.ws_networks.specs.Bounds.{bounds_from}
-use Rattle.ws_networks.specs.Connecting.{AreMissed, HasConnected}
+use Rattle.ws_networks.specs.Connecting.{AreMissed, HasConnected, only_place}
 use Rattle.ws_networks.specs.Meetings.{HasEnded, HasMet}
 use Rattle.ws_networks.specs.Networks.{NetworkDeed}
 use Rattle.ws_networks.specs.declared.bounds.Bounds.{Bounds}
-use Rattle.ws_networks.specs.declared.connecting.Missed.{Missed}
+use Rattle.ws_networks.specs.declared.dialing.Missed.{Missed}
 use Rattle.ws_networks.specs.declared.meeting.Met.{Met}
 use Rattle.ws_networks.specs.declared.meeting.Met.TheVariants.{Ended, NotMade}
 use Rattle.ws_connection.specs.Probing.{BeginsProbe, bytes_by_turn}
@@ -85,42 +85,28 @@ module _ {M S : Type 0} (agrees : M → M → List Told → Type 0) (wants : M �
 
 -- ---- a connection is made no earlier than it was begun
 
-missed_later : {A W : Type 0} (bounds : Bounds) (from to : ℕ) (addresses : List A) (misses : List (Missed W))
-    (deeds : List (NetworkDeed A W)) → AreMissed bounds from to addresses misses deeds → from ≤ to
-missed_later bounds from to [] [] deeds (later, none) = later
-missed_later bounds from to [] (why ∷ misses) deeds h = absurd h
-missed_later bounds from to (address ∷ addresses) [] deeds h = absurd h
-missed_later bounds from to (address ∷ addresses) (why ∷ misses) deeds
+missed_later : {A W : Type 0} (at : ℕ) (bounds : Bounds) (from to : ℕ) (addresses : List A) (misses : List (Missed W))
+    (deeds : List (NetworkDeed A W)) → AreMissed at bounds from to addresses misses deeds → from ≤ to
+missed_later at bounds from to [] [] deeds (later, none) = later
+missed_later at bounds from to [] (why ∷ misses) deeds h = absurd h
+missed_later at bounds from to (address ∷ addresses) [] deeds h = absurd h
+missed_later at bounds from to (address ∷ addresses) (why ∷ misses) deeds
     (mid, one, rest, parts, (since, now, after, between, before, missed), others) =
-    let last = missed_later bounds mid to addresses misses rest others in omega (arith, after, between, before, last)
+    let last = missed_later at bounds mid to addresses misses rest others in omega (arith, after, between, before, last)
 
-made_later : {A W N : Type 0} (did : N → N → List (NetworkDeed A W) → Type 0) (bounds : Bounds) (from to : ℕ)
-    (old new : N) (name : List ℕ) → HasConnected did bounds from to old new name None → from ≤ to
-made_later did bounds from to old new name (deeds, added, inl (cause, none, parts)) = absurd cc
-made_later did bounds from to old new name (deeds, added, inr (addresses, tries, parts, made)) =
-    let first = missed_later bounds from made.mid made.before made.misses made.tried made.are_missed in
-    omega (arith, first, made.later)
+pub made_later : {A W N : Type 0} (did : N → N → List (NetworkDeed A W) → Type 0) (at : ℕ) (bounds : Bounds) (from to : ℕ)
+    (old new : N) (name : List ℕ) → HasConnected did at bounds from to old new name None → from ≤ to
+made_later did at bounds from to old new name (deeds, added, inl (cause, none, parts)) = absurd cc
+made_later did at bounds from to old new name (deeds, added, inr (addresses, tries, parts, made)) =
+    let first = missed_later at bounds from made.mid made.before made.misses made.tried made.are_missed in
+    omega (arith, first, made.behind, made.later)
 
 -- ---- what came of a case
 
-probe_at : (probe : Probe) (reason : ConnectFault) → probe_of (meeting_at probe reason) ≡ probe
+pub probe_at : (probe : Probe) (reason : ConnectFault) → probe_of (meeting_at probe reason) ≡ probe
 probe_at (probe.Ran transcript) reason = refl
 probe_at (probe.Refused refusal) reason = refl
 probe_at probe.NoConnection reason = refl
-
--- and why
-pub met_because : {S A N E : Type 0} (did : S → S → List Deed → Type 0)
-    (does : N → N → List (NetworkDeed A ConnectMiss) → Type 0) (limits : Limits) (from to : ℕ) (old new : N)
-    (name : List ℕ) (start : ProbeValue) (met : Result (Met Probe S ConnectMiss) LoopFault)
-    (answer : Result Meeting E)
-    → IfOk met (λ m. HasMet WasProbed (λ (now : ProbeValue). wanted_of now) ProbeGives did does limits from to old new
-    name start m) → IfOk answer (λ meeting. IsMeetingBy met meeting)
-    → IfOk answer (λ meeting. MeetsBecause did does limits from to old new name meeting)
-met_because did does limits from to old new name start met (Err why) h by = by
-met_because did does limits from to old new name start (Err NoMemory) (Ok meeting) h by = absurd by
-met_because did does limits from to old new name start (Err WaitFailed) (Ok meeting) h by = inr by
-met_because did does limits from to old new name start (Err NoOutput) (Ok meeting) h by = inr by
-met_because did does limits from to old new name start (Ok met) (Ok meeting) h by = inl (start, met, h, by)
 
 module _ (server : AddressValue) (key : List ℕ) (case : Case) (start : ProbeValue)
     (begins : BeginsProbe (plan_at server) (bytes_by_turn case (Some key)) server.request server.budget start) where
@@ -138,7 +124,7 @@ module _ (server : AddressValue) (key : List ℕ) (case : Case) (start : ProbeVa
   met_so did does from to old new name (Ended probe stream) meeting
       (begun, made, after, connected, (now, later, ended)) (end, same) =
       let bounds = bounds_from (limits_of_server server) begun in
-      let first = made_later does bounds begun made old new name connected in
+      let first = made_later does only_place bounds begun made old new name connected in
       let told = ap (λ (m : Meeting). probe_of m) same ∙ probe_at probe (reason_of_end end) in
       inr (subst (λ (p : Probe). IsProbedSo server key case p) (sym told) (record {
         start = start;
@@ -164,3 +150,16 @@ module _ (server : AddressValue) (key : List ℕ) (case : Case) (start : ProbeVa
   met_or_not did does from to old new name (Err NoOutput) (Ok meeting) h by = inl (ap (λ (m : Meeting). probe_of m) by)
   met_or_not did does from to old new name (Ok met) (Ok meeting) h by =
       met_so did does from to old new name met meeting h by
+
+  -- and why
+  pub met_because : {S A N E : Type 0} (did : S → S → List Deed → Type 0)
+      (does : N → N → List (NetworkDeed A ConnectMiss) → Type 0) (from to : ℕ) (old new : N) (name : List ℕ)
+      (met : Result (Met Probe S ConnectMiss) LoopFault) (answer : Result Meeting E)
+      → IfOk met (λ m. HasMetServer did does from to old new name m)
+      → IfOk answer (λ meeting. IsMeetingBy met meeting)
+      → IfOk answer (λ meeting. MeetsBecause did does server key case from to old new name meeting)
+  met_because did does from to old new name met (Err why) h by = by
+  met_because did does from to old new name (Err NoMemory) (Ok meeting) h by = absurd by
+  met_because did does from to old new name (Err WaitFailed) (Ok meeting) h by = inr by
+  met_because did does from to old new name (Err NoOutput) (Ok meeting) h by = inr by
+  met_because did does from to old new name (Ok met) (Ok meeting) h by = inl (start, met, begins, h, by)

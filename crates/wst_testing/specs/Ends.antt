@@ -3,7 +3,7 @@ use Rattle.std.specs.Prelude.{◌≡◌, ℕ, List, Result, Ok, Err}
 use Rattle.std.specs.Borrow.{Bor}
 use Rattle.ws_scripts.specs.declared.script.Case.{Case}
 use Rattle.wst_sockets.specs.declared.meeting.Meeting.{Meeting}
-use Rattle.wst_testing.specs.Servers.{MeetsAtAddress, MeetsByCalls, MeetsInMemory, asked_by}
+use Rattle.wst_testing.specs.Servers.{MeetsAtAddress, MeetsInMemory, ShowsAtAddress, asked_by}
 use Rattle.wst_testing.specs.declared.runner.End.{End}
 use Rattle.wst_testing.specs.declared.runner.End.TheVariants as end
 use Rattle.wst_testing.specs.declared.run_plans.RunPlan.{RunPlan}
@@ -15,10 +15,10 @@ abbrev pub MeetsEnd : {N C : Type 0} → End N C → List ℕ → Case → Meeti
 MeetsEnd (end.Memory memory) key case meeting = MeetsInMemory memory key case meeting
 MeetsEnd (end.Address server) key case meeting = MeetsAtAddress server key case meeting
 
--- and where an observer is told of the run
-abbrev pub MeetsEndByCalls : {N C : Type 0} → End N C → List ℕ → Case → Meeting → Type 0
-MeetsEndByCalls (end.Memory memory) key case meeting = MeetsInMemory memory key case meeting
-MeetsEndByCalls (end.Address server) key case meeting = MeetsByCalls server key case meeting
+-- and where the lines of the run are written
+abbrev pub MeetsEndShown : {N C : Type 0} → End N C → List ℕ → Case → Meeting → Type 0
+MeetsEndShown (end.Memory memory) key case meeting = MeetsInMemory memory key case meeting
+MeetsEndShown (end.Address server) key case meeting = ShowsAtAddress server key case meeting
 
 -- the end that a plan names for what it tests; or that clients are tested, and the address to which they come
 abbrev pub IsEndOfPlan : {N C : Type 0} → RunPlan → TestedEnd → Result (End N C) (Bor (List ℕ)) → Type 0

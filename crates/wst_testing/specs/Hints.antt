@@ -111,7 +111,7 @@ MissesEcho Protocol tested transcript missed = missed ≡ false
 
 abbrev pub missed_echo_hint : List ℕ
 missed_echo_hint =
-    codes "the replies are not those of an echo: if the endpoint doesn't echo, add --expect protocol\n"
+    codes "nothing came back, or not what an echo sends: if the endpoint doesn't echo, add --expect protocol\n"
 
 -- what is told then
 abbrev pub missed_echo_notes : Bool → List (List ℕ)

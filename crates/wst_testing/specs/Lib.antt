@@ -1,4 +1,6 @@
 pub mod RunPlans
+pub mod LineWriting
+pub mod LineOutputs
 pub mod Servers
 pub mod Ends
 pub mod HeadRules
@@ -14,5 +16,4 @@ pub mod Runner
 pub mod Reporter
 pub mod Capturer
 pub mod KnownInput
-pub mod LineWriting
 pub mod Sweeps

@@ -257,6 +257,9 @@ address_text advice.Web = codes "bad address\n  expected ws://HOST:PORT/PATH\n"
 address_text advice.User = codes "bad address\n  no user before the host: ws://HOST:PORT/PATH, see --header\n"
 address_text advice.Port =
     codes "bad address\n  a port is at most 65535, and 80 without one: ws://HOST:PORT/PATH\n"
+address_text advice.Unencoded =
+    codes "bad address\n  a URL is visible ASCII: a space is %20, and an umlaut such as %C3%BC\n"
+address_text advice.Fragment = codes "bad address\n  no fragment: a # of a path or a query is %23\n"
 address_text advice.Url = codes "bad address\n  an address to listen at is wanted: HOST:PORT\n"
 address_text advice.Nothing = codes "bad address\n"
 

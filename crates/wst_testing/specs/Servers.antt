@@ -1,18 +1,21 @@
 -- Ends that cases are run over: what is known of a meeting with one in memory, and with a server at an address.
-use Rattle.std.specs.Prelude.{◌≡◌, ◌⊎◌, ℕ, ◌≤◌, ◌*◌, List, ◌++◌, Option, Some, None, Result, Ok, Err}
+use Rattle.std.specs.Prelude.{◌≡◌, ◌⊎◌, ℕ, ◌≤◌, ◌*◌, List, [], ◌++◌, Option, Some, None, Result, Ok, Err}
 use Rattle.ws_wire.specs.declared.role.Role.{Role}
 use Rattle.ws_wire.specs.declared.role.Role.TheVariants.{Server}
 use Rattle.ws_session.specs.Replies.{key_for}
 use Rattle.ws_suite.specs.Evidence.{other_role}
-use Rattle.ws_connection.specs.ConnectionValues.{ConnectionRun}
-use Rattle.ws_connection.specs.Probing.{BeginsProbe, Probes, bytes_by_turn}
+use Rattle.std.specs.List.{concat}
+use Rattle.ws_frame.specs.Devices.{Device, HasWritten}
+use Rattle.ws_connection.specs.Probing.{BeginsProbe, bytes_by_turn}
 use Rattle.ws_handshake.specs.Probes.{ProbeGives, ProbeValue, WasProbed, wanted_of}
 use Rattle.ws_loops.specs.Deeds.{Deed}
+use Rattle.ws_loops.specs.Sinks.{lines_at}
 use Rattle.ws_networks.specs.Bounds.{bounds_from}
-use Rattle.ws_networks.specs.Meetings.{HasEnded, HasMet}
+use Rattle.ws_networks.specs.Connecting.{only_place}
+use Rattle.ws_networks.specs.Meetings.{HasEnded, HasMet, HasMetShowing}
 use Rattle.ws_networks.specs.Networks.{NetworkDeed}
-use Rattle.ws_networks.specs.declared.connecting.Missed.{Missed}
-use Rattle.ws_networks.specs.declared.connecting.Missed.TheVariants as missed
+use Rattle.ws_networks.specs.declared.dialing.Missed.{Missed}
+use Rattle.ws_networks.specs.declared.dialing.Missed.TheVariants as missed
 use Rattle.ws_networks.specs.declared.bounds.Limits.{Limits}
 use Rattle.ws_networks.specs.declared.meeting.Met.{Met}
 use Rattle.ws_networks.specs.declared.meeting.Met.TheVariants.{Ended, NotMade}
@@ -49,6 +52,10 @@ use Rattle.wst_sockets.specs.declared.meeting.Meeting.{Meeting}
 use Rattle.wst_sockets.specs.declared.meeting.Meeting.TheVariants.{NoConnection, Ran, Refused}
 use Rattle.ws_connection.specs.UpgradeRequests.{RequestValue, request_value}
 use Rattle.ws_connection.specs.declared.probing.Asked.{Asked}
+use Rattle.ws_shown.specs.ShownProbes.{ShownGives, ShownValue, WasShown, shown_wants}
+use Rattle.ws_shown.specs.declared.shown_probe.ShownEnd.{ShownEnd}
+use Rattle.ws_shown.specs.declared.shown_probe.ShownStage.TheVariants.{Opening}
+use Rattle.wst_testing.specs.LineOutputs.{untaken_lines}
 use Rattle.ws_targets.specs.Targets.{TargetValue}
 use Rattle.wst_testing.specs.declared.run_plans.RunPlan.{RunPlan}
 
@@ -151,14 +158,17 @@ IsMeetingBy (Err fault.NoMemory) meeting = ⊥
 IsMeetingBy (Err fault.WaitFailed) meeting = meeting ≡ NoConnection why.Failed
 IsMeetingBy (Err fault.NoOutput) meeting = meeting ≡ NoConnection why.Failed
 
--- A machine that probes was run over a connection to this name, by a network that did just this, within these limits,
--- and this came of it; or none was made, for the reason that is told; or nothing could be waited for.
+-- The machine that puts this server's request and then runs this case was run over a connection to this name, by a
+-- network that did just this, within its limits, and this came of it; or none was made, for the reason that is told; or
+-- nothing could be waited for.
 abbrev pub MeetsBecause : {S A N : Type 0} → (S → S → List Deed → Type 0)
-    → (N → N → List (NetworkDeed A ConnectMiss) → Type 0) → Limits → ℕ → ℕ → N → N → List ℕ → Meeting → Type 0
-MeetsBecause {S} did does limits from to old new name meeting =
+    → (N → N → List (NetworkDeed A ConnectMiss) → Type 0) → AddressValue → List ℕ → Case → ℕ → ℕ → N → N → List ℕ
+    → Meeting → Type 0
+MeetsBecause {S} did does server key case from to old new name meeting =
     ((start : ProbeValue) × (met : Met Probe S ConnectMiss)
-    × HasMet WasProbed (λ (now : ProbeValue). wanted_of now) ProbeGives did does limits from to old new name start met
-    × IsMeetingBy (Ok met) meeting)
+    × BeginsProbe (plan_at server) (bytes_by_turn case (Some key)) server.request server.budget start
+    × HasMet WasProbed (λ (now : ProbeValue). wanted_of now) ProbeGives did does (limits_of_server server) from to old
+    new name start met × IsMeetingBy (Ok met) meeting)
     ⊎ (meeting ≡ NoConnection why.Failed)
 
 -- what is asked so, within these bounds
@@ -171,18 +181,57 @@ asked_within asked bounds = record {
   budget = bounds.budget;
 }
 
--- ---- a server at an address whose run is told as it goes on
+-- ---- a server at an address, where the lines of the run are written as it goes on
 
--- There is a connection with this budget over which the server was asked for an upgrade so, and the case run, call by
--- call. Where its bytes are not known, this binds the turns of the transcript and its end alone, and not the request.
-abbrev pub IsProbedByCalls : AddressValue → List ℕ → Case → Probe → Type 0
-IsProbedByCalls server key case probe = (run : ConnectionRun) × (run.old.input.allowance ≡ server.budget)
-    × Probes (plan_at server) case key server.request probe run
+-- Some stream did these things, and over it the server was asked for an upgrade so, and the case run, by the loop, as
+-- `IsProbedSo` has it; and its lines were wanted and taken in their place among all that happened.
+pub record IsShownSo (server : AddressValue) (key : List ℕ) (case : Case) (probe : Probe) : Type 0 where
+  pub start : ShownValue
+  pub asking : ProbeValue
+  pub opens : start.stage ≡ Opening asking
+  pub begins : BeginsProbe (plan_at server) (bytes_by_turn case (Some key)) server.request server.budget asking
+  pub begun : ℕ
+  pub made : ℕ
+  pub in_order : begun ≤ made
+  pub to : ℕ
+  pub did : List Deed
+  pub end : ShownEnd
+  pub is_probe : end.probe ≡ probe
+  pub ended : HasEnded WasShown (λ (now : ShownValue). shown_wants now) ShownGives DidThese
+      (bounds_from (limits_of_server server) begun) made to start end did
 
--- there is no connection to the server, or one that was probed so; why there is none is not said
-abbrev pub MeetsByCalls : AddressValue → List ℕ → Case → Meeting → Type 0
-MeetsByCalls server key case meeting =
-    (probe_of meeting ≡ probe.NoConnection) ⊎ IsProbedByCalls server key case (probe_of meeting)
+-- there is no connection to the server, or one over which it was probed and shown so; why there is none is not said
+abbrev pub ShowsAtAddress : AddressValue → List ℕ → Case → Meeting → Type 0
+ShowsAtAddress server key case meeting =
+    (probe_of meeting ≡ probe.NoConnection) ⊎ IsShownSo server key case (probe_of meeting)
+
+-- what came of a case, where this came of its machine
+abbrev pub IsShownMeeting : {S : Type 0} → Met ShownEnd S ConnectMiss → Meeting → Type 0
+IsShownMeeting (Ended end stream) meeting =
+    (how : StreamEnd) × (meeting ≡ meeting_at end.probe (reason_of_end how))
+IsShownMeeting (NotMade reason) meeting = meeting ≡ NoConnection (reason_of_miss reason)
+
+-- lines that stand for all that were taken: from the first state to the second one just these were
+abbrev pub TookThese : List (ℕ × List ℕ) → List (ℕ × List ℕ) → List (ℕ × List ℕ) → Type 0
+TookThese old new taken = new ≡ old ++ taken
+
+-- The machine that puts this server's request, then runs this case, and wants its lines to be shown, was run over a
+-- connection to this name, by a network that did just this, within its limits, and this came of it; or none was made,
+-- for the reason that is told. What was written is just the lines that were taken, in their place among all that
+-- happened, and the last ones behind them.
+pub record ShowsBecause {S A N : Type 0} (did : S → S → List Deed → Type 0)
+    (does : N → N → List (NetworkDeed A ConnectMiss) → Type 0) (server : AddressValue) (key : List ℕ) (case : Case)
+    (from to : ℕ) (old new : N) (name : List ℕ) (meeting : Meeting) (output : Device) : Type 0 where
+  pub start : ShownValue
+  pub asking : ProbeValue
+  pub opens : start.stage ≡ Opening asking
+  pub begins : BeginsProbe (plan_at server) (bytes_by_turn case (Some key)) server.request server.budget asking
+  pub met : Met ShownEnd S ConnectMiss
+  pub taken : List (ℕ × List ℕ)
+  pub shows : HasMetShowing TookThese [] taken WasShown (λ (now : ShownValue). shown_wants now) ShownGives did does
+      (limits_of_server server) from to old new name start met
+  pub is_meeting : IsShownMeeting met meeting
+  pub written : HasWritten (concat (lines_at only_place taken) ++ untaken_lines met) output
 
 -- ---- as a plan has it
 
@@ -200,5 +249,6 @@ asked_by plan target = record {
 abbrev pub MeetsAtTarget : TargetValue → RunPlan → Case → Meeting → Type 0
 MeetsAtTarget target plan case meeting = MeetsAtAddress (asked_by plan target) plan.key case meeting
 
-abbrev pub MeetsTargetByCalls : TargetValue → RunPlan → Case → Meeting → Type 0
-MeetsTargetByCalls target plan case meeting = MeetsByCalls (asked_by plan target) plan.key case meeting
+-- and where its lines are written
+abbrev pub ShowsTarget : TargetValue → RunPlan → Case → Meeting → Type 0
+ShowsTarget target plan case meeting = ShowsAtAddress (asked_by plan target) plan.key case meeting

@@ -1,38 +1,42 @@
 //! A server at an address of a network: each case is run over a connection of its own, by the loop that doesn't wait in
-//! a read, or call by call where somebody is told of it.
+//! a read.
 
-ghost use Rattle.std.specs.Prelude.{◌≡◌, IfOk};
+ghost use Rattle.std.specs.Prelude.{◌≡◌, IfOk, false};
+ghost use Rattle.ws_frame.specs.Devices.{watched};
+ghost use Rattle.ws_frame.specs.Watching.{has_failed};
 ghost use Rattle.ws_scripts.specs.Scripts.{CanBeRun};
-ghost use Rattle.ws_connection.specs.Observing.{HearsProbe, IsHearing};
-ghost use Rattle.wst_sockets.specs.Meetings.{probe_of};
 ghost use Rattle.ws_connection.specs.UpgradeRequests.{CanBeAsked, request_value};
 ghost use Rattle.wst_commands.specs.TimeLimits.{is_limited};
-ghost use Rattle.wst_testing.specs.Servers.{IsMeetingBy, IsProbedByCalls, MeetsAtAddress, MeetsByCalls, asked_by};
-ghost use Rattle.wst_testing.specs.Servers.{MeetsBecause, asked_within, limits_within, meeting_at, milliseconds_of};
-ghost use Rattle.wst_testing.specs.Servers.{reason_of_end, reason_of_miss};
+ghost use Rattle.wst_testing.specs.LineOutputs.{EndsOutput, ShowsMeeting};
+ghost use Rattle.wst_testing.specs.Servers.{IsMeetingBy, IsShownMeeting, MeetsAtAddress, ShowsAtAddress, asked_by};
+ghost use Rattle.wst_testing.specs.Servers.{MeetsBecause, ShowsBecause, asked_within, limits_within, meeting_at};
+ghost use Rattle.wst_testing.specs.Servers.{milliseconds_of, reason_of_end, reason_of_miss};
 ghost use Rattle.wst_sockets.specs.Connecting.{connect_fault_at};
 ghost use Rattle.wst_sockets.specs.declared.meeting.Meeting.TheVariants.{NoConnection};
 
 use crate::case_server::CaseServer;
+use crate::line_output::LineOutput;
+use crate::line_writer::LineStop;
 use crate::run_plans::RunPlan;
 use std::alloc::Global;
-use std::cell::{Cell, RefCell};
-use std::io::{ErrorKind, Read, Write};
+use std::cell::Cell;
+use std::io::{ErrorKind, Write};
 use std::marker::Model;
-use std::net::OpenStream;
 use std::slice;
 use ws_base::NoMemory;
-use ws_connection::{Asked, Connection, Observer, Probe, UpgradeRequest, probe, probe_machine};
-use ws_frame::READ_SIZE;
-use ws_loops::{LoopFault, Poller, WaitFailed, Wake};
-use ws_networks::{Limits, Met, Missed, run_at};
+use ws_connection::{Asked, Probe, UpgradeRequest, probe_machine};
+use ws_frame::{READ_SIZE, Watched};
+use ws_lines::Showing;
+use ws_loops::{LoopFault, NoLines, Poller, WaitFailed, Wake};
+use ws_networks::{Errand, Limits, Met, Missed, run_at};
+use ws_shown::{ShownEnd, ShownProbe};
 use ws_suite::{Case, Expectation};
 use ws_targets::Target;
 use wst_commands::TimeLimit;
 use wst_network::{ConnectMiss, Connector, EndingStream, StreamEnd};
 use wst_sockets::{
-    ConnectFault, Meeting, Network, Noted, Notice, PATIENCE, Pace, PatientReader, PatientWriter,
-    Running, WaitTeller, connect, connect_fault, lookup_fault, shared,
+    ConnectFault, Meeting, Network, Notice, PATIENCE, Running, WaitTeller, connect_fault,
+    lookup_fault,
 };
 
 /// A server that is met over a network, at an address. Contracts see what it is asked for, what is expected of it, how
@@ -66,7 +70,7 @@ impl<'a, N, C> Model for AddressServer<'a, N, C> {
 }
 
 impl<'a, N, C> AddressServer<'a, N, C> {
-    /// The server at a target, as a plan asks for it. Where nobody is told of a run, the connector connects.
+    /// The server at a target, as a plan asks for it.
     pub fn new(
         net: &'a N,
         connector: &'a C,
@@ -99,7 +103,7 @@ impl<'a, N, C> AddressServer<'a, N, C> {
 impl<N: Network, C: Connector> CaseServer for AddressServer<'_, N, C> {
     ghost meets = { λ server key case meeting. MeetsAtAddress server key case meeting };
 
-    ghost meets_told = { λ server key case meeting. MeetsByCalls server key case meeting };
+    ghost meets_shown = { λ server key case meeting. ShowsAtAddress server key case meeting };
 
     fn run(&self, alloc: Global, case: &Case, key: [u8; 4]) -> Result<Meeting, NoMemory> {
         let number = Cell::new(Some(1));
@@ -117,104 +121,55 @@ impl<N: Network, C: Connector> CaseServer for AddressServer<'_, N, C> {
             Ok((mut network, poller)) => {
                 let teller = WaitTeller::of(alloc, self.net, &self.notice, running);
                 let mut poller = TellingPoller::of(poller, teller);
-                run_looped(
-                    alloc,
+                let job = ServerCase {
                     case,
-                    &asked,
-                    &mut network,
-                    &mut poller,
-                    self.address,
-                    self.bounds,
-                )
+                    asked: &asked,
+                    address: self.address,
+                    bounds: self.bounds,
+                };
+                run_looped(alloc, job, &mut network, &mut poller)
             }
             Err(error) => without_network(error.kind()),
         }
     }
 
-    fn run_told<O: Observer>(
+    fn run_shown<W: Write>(
         &self,
         alloc: Global,
         case: &Case,
         key: [u8; 4],
-        observer: &mut O,
-    ) -> Result<Meeting, O::Fault> {
-        let (timeout, deadline) = (self.bounds.timeout, self.bounds.deadline);
-        match connect(self.net, self.address, timeout.shorter(deadline)) {
-            Ok(stream) => {
-                let asked = Asked {
-                    request: self.request,
-                    key,
-                    expected: self.expected,
-                    has_timeouts: timeout.is_limited(),
+        showing: Showing,
+        writer: &mut Watched<W>,
+    ) -> Result<Meeting, LineStop> {
+        let number = Cell::new(Some(1));
+        let running = Running {
+            cases: slice::from_ref(case),
+            number: &number,
+        };
+        let has_timeouts = self.bounds.timeout.is_limited();
+        let asked = Asked {
+            request: self.request,
+            key,
+            expected: self.expected,
+            has_timeouts,
+        };
+        match self.connector.network(alloc) {
+            Ok((mut network, poller)) => {
+                let teller = WaitTeller::of(alloc, self.net, &self.notice, running);
+                let mut poller = TellingPoller::of(poller, teller);
+                let job = ServerCase {
+                    case,
+                    asked: &asked,
+                    address: self.address,
+                    bounds: self.bounds,
                 };
-                let stream = shared(stream, timeout);
-                let pace = Pace::of(self.net, timeout, deadline);
-                let (failure, number) = (Cell::new(None), Cell::new(Some(1)));
-                let running = Running {
-                    cases: slice::from_ref(case),
-                    number: &number,
-                };
-                let server = ServerStream {
-                    stream: &stream,
-                    failure: &failure,
-                    pace: &pace,
-                    teller: WaitTeller::of(alloc, self.net, &self.notice, running),
-                };
-                meet_over(alloc, case, &asked, server, self.bounds, observer)
+                show_looped(alloc, job, &mut network, &mut poller, showing, writer)
             }
-            Err(why) => Ok(Meeting::NoConnection(why)),
+            Err(error) => {
+                let meeting = without_network(error.kind())?;
+                Ok(meeting)
+            }
         }
-    }
-}
-
-/// The stream of a server, of which kind the first error of a call over it was, its times, and what tells of its waits.
-#[derive(Clone, Copy)]
-struct ServerStream<'a, S, N> {
-    stream: &'a RefCell<S>,
-    failure: &'a Cell<Option<ErrorKind>>,
-    pace: &'a Pace<'a, N>,
-    teller: WaitTeller<'a, N>,
-}
-
-/// Runs a case over a connection, and tells why its answer was not whole, if so.
-fn meet_over<S: Read + Write + OpenStream, N: Network, O: Observer>(
-    alloc: Global,
-    case: &Case,
-    asked: &Asked<'_>,
-    server: ServerStream<'_, S, N>,
-    bounds: Bounds,
-    observer: &mut O,
-) -> Result<Meeting, O::Fault>
-    requires runs { CanBeRun case.now }
-    requires request { CanBeAsked (request_value asked.now.request) }
-    requires hearing { IsHearing O.heard observer.old }
-    requires timeouts { asked.now.has_timeouts ≡ is_limited bounds.timeout }
-    ensures probed { IfOk result (λ meeting.
-        IsProbedByCalls (asked_within asked.now bounds) asked.now.key case.now (probe_of meeting)) }
-    ensures told { IfOk result (λ meeting.
-        HearsProbe O.heard O.heard_all observer.old observer.new (probe_of meeting)) }
-    ensures borrow { O.borrow observer.new ≡ O.borrow observer.old }
-{
-    let reader = PatientReader::of(server.stream, server.pace, server.teller);
-    let writer = PatientWriter::of(server.stream, server.pace);
-    let (reader, writer) = (
-        Noted::of(reader, server.failure),
-        Noted::of(writer, server.failure),
-    );
-    let mut connection = Connection::new(reader, writer, bounds.budget);
-    match probe(alloc, case, asked, &mut connection, observer)? {
-        Probe::Ran(transcript) => Ok(Meeting::Ran(transcript)),
-        Probe::Refused(refusal) => Ok(Meeting::Refused(refusal)),
-        Probe::NoConnection => Ok(Meeting::NoConnection(fault_of(server.failure.get()))),
-    }
-}
-
-/// Why an answer was not whole, where a call has failed so first. Where none has, the stream has ended in it.
-fn fault_of(failure: Option<ErrorKind>) -> ConnectFault {
-    match failure {
-        Some(ErrorKind::TimedOut | ErrorKind::WouldBlock) => ConnectFault::NoAnswer,
-        Some(kind) => connect_fault(kind),
-        None => ConnectFault::ClosedBeforeAnswer,
     }
 }
 
@@ -254,31 +209,105 @@ fn milliseconds(limit: TimeLimit) -> Option<u64>
     }
 }
 
+/// A case that is to be run over a server at an address.
+#[derive(Clone, Copy)]
+pub struct ServerCase<'a> {
+    pub case: &'a Case,
+    /// What is asked of the server before, and how the case is run.
+    pub asked: &'a Asked<'a>,
+    pub address: &'a str,
+    pub bounds: Bounds,
+}
+
 /// Runs a case over a connection to an address, and tells why there is none, or why its answer was not whole, if so.
 pub fn run_looped<N: ws_networks::Network<Miss = ConnectMiss>, P: Poller>(
     alloc: Global,
-    case: &Case,
-    asked: &Asked<'_>,
+    job: ServerCase<'_>,
     network: &mut N,
     poller: &mut P,
-    address: &str,
-    bounds: Bounds,
 ) -> Result<Meeting, NoMemory>
 where
     N::Stream: EndingStream,
-    requires runs { CanBeRun case.now }
-    requires request { CanBeAsked (request_value asked.now.request) }
-    requires timeouts { asked.now.has_timeouts ≡ is_limited bounds.timeout }
+    requires runs { CanBeRun job.case.now }
+    requires request { CanBeAsked (request_value job.asked.now.request) }
+    requires timeouts { job.asked.now.has_timeouts ≡ is_limited job.bounds.timeout }
     ensures meets { IfOk result (λ meeting.
-        MeetsAtAddress (asked_within asked.now bounds) asked.now.key case.now meeting) }
-    ensures why { IfOk result (λ meeting. MeetsBecause N.Stream.did N.did (limits_within bounds.timeout bounds.deadline)
-        (P.time poller.old) (P.time poller.new) network.old network.new address.now meeting) }
+        MeetsAtAddress (asked_within job.entry.asked.now job.entry.bounds) job.entry.asked.now.key job.entry.case.now
+        meeting) }
+    ensures why { IfOk result (λ meeting. MeetsBecause N.Stream.did N.did
+        (asked_within job.entry.asked.now job.entry.bounds) job.entry.asked.now.key job.entry.case.now
+        (P.time poller.old) (P.time poller.new) network.old network.new job.entry.address.now meeting) }
 {
-    let machine = probe_machine(alloc, case, asked, bounds.budget)?;
+    let machine = probe_machine(alloc, job.case, job.asked, job.bounds.budget)?;
     let mut room = [0; READ_SIZE];
-    let limits = bounds.limits();
-    let met = run_at(alloc, network, poller, address, machine, limits, &mut room);
+    let errand = Errand {
+        name: job.address,
+        machine,
+        limits: job.bounds.limits(),
+    };
+    let met = run_at(alloc, network, poller, &mut NoLines, errand, &mut room);
     meeting_by(met)
+}
+
+/// Runs a case over a connection to an address, and writes the lines of the run as it goes on, each before anything
+/// else happens there. It tells why there is no connection, or why its answer was not whole, if so.
+pub fn show_looped<N: ws_networks::Network<Miss = ConnectMiss>, P: Poller, W: Write>(
+    alloc: Global,
+    job: ServerCase<'_>,
+    network: &mut N,
+    poller: &mut P,
+    showing: Showing,
+    writer: &mut Watched<W>,
+) -> Result<Meeting, LineStop>
+where
+    N::Stream: EndingStream,
+    requires runs { CanBeRun job.case.now }
+    requires request { CanBeAsked (request_value job.asked.now.request) }
+    requires timeouts { job.asked.now.has_timeouts ≡ is_limited job.bounds.timeout }
+    requires works { has_failed writer.old ≡ false }
+    ensures meets { IfOk result (λ meeting.
+        ShowsAtAddress (asked_within job.entry.asked.now job.entry.bounds) job.entry.asked.now.key job.entry.case.now
+        meeting) }
+    ensures shown { IfOk result (λ meeting.
+        ShowsMeeting showing meeting (watched W.contents writer.old writer.new)) }
+    ensures why { IfOk result (λ meeting. ShowsBecause N.Stream.did N.did
+        (asked_within job.entry.asked.now job.entry.bounds) job.entry.asked.now.key job.entry.case.now
+        (P.time poller.old) (P.time poller.new) network.old network.new job.entry.address.now meeting
+        (watched W.contents writer.old writer.new)) }
+{
+    let asking = probe_machine(alloc, job.case, job.asked, job.bounds.budget)?;
+    let mut place = [0; READ_SIZE];
+    let errand = Errand {
+        name: job.address,
+        machine: ShownProbe::new(alloc, showing, asking),
+        limits: job.bounds.limits(),
+    };
+    let mut sink = LineOutput::new(writer);
+    let met = run_at(alloc, network, poller, &mut sink, errand, &mut place)?;
+    let meeting = end_shown(met, &mut sink)?;
+    Ok(meeting)
+}
+
+/// Writes the lines of a run that were not taken, and tells what came of its case.
+fn end_shown<S: EndingStream + Drop, W: Write>(
+    met: Met<ShownEnd, S, ConnectMiss>,
+    sink: &mut LineOutput<'_, W>,
+) -> Result<Meeting, LineStop>
+    ensures meeting { IfOk result (IsShownMeeting met) }
+    ensures last { IfOk result (λ meeting. EndsOutput W.contents met sink.old.writer.now sink.new.writer.now) }
+    ensures borrow { sink.new.writer.ghost_name ≡ sink.old.writer.ghost_name }
+{
+    match met {
+        Met::Ended(end, stream) => {
+            let ShownEnd { probe, last } = end;
+            sink.write_last(last.as_slice())?;
+            Ok(meeting_of(probe, stream.stream_end()))
+        }
+        Met::NotMade(why) => {
+            let meeting = without_connection(why)?;
+            Ok(meeting)
+        }
+    }
 }
 
 /// What came of a case, where this came of its machine. Where nothing could be waited for, there is no connection.

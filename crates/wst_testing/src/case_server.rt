@@ -1,16 +1,22 @@
 //! Ends that cases are run over: what is known of a meeting with one, and those in memory.
 
-ghost use Rattle.std.specs.Prelude.{◌≡◌, IfOk, OnOk};
-ghost use Rattle.ws_connection.specs.Observing.{HearsProbe, IsHearing};
-ghost use Rattle.ws_handshake.specs.declared.probe_end.Probe.TheVariants.{Ran};
+ghost use Rattle.std.specs.Prelude.{◌≡◌, IfErr, IfOk, OnOk, false};
+ghost use Rattle.ws_frame.specs.Devices.{watched};
+ghost use Rattle.ws_frame.specs.Watching.{has_failed};
 ghost use Rattle.ws_scripts.specs.Scripts.{CanBeRun};
-ghost use Rattle.wst_sockets.specs.Meetings.{probe_of};
+ghost use Rattle.wst_testing.specs.LineOutputs.{MayStopLines, ShowsMeeting};
+ghost use Rattle.wst_testing.specs.LineWriting.{HasWrittenRun};
 ghost use Rattle.wst_testing.specs.Servers.{IsMemoryRun, IsPeerRun, MeetsInMemory};
 
+use crate::line_output::flush;
+use crate::line_writer::LineStop;
 use std::alloc::Global;
+use std::io::Write;
 use ws_base::NoMemory;
-use ws_connection::Observer;
+use ws_frame::{ShowFault, Watched, write_whole};
+use ws_lines::Showing;
 use ws_peer::{TungPeer, run_case_with, run_over_echo_as, tester_key};
+use ws_shown::lines_of;
 use ws_suite::{Case, Transcript};
 use ws_wire::Role;
 use wst_sockets::Meeting;
@@ -24,28 +30,30 @@ pub trait CaseServer {
     /// With this masking key, this may come of this case over a new end.
     ghost meets: { Self → List ℕ → Case → Meeting → Type 0 };
 
-    /// And this where an observer is told of the run.
-    ghost meets_told: { Self → List ℕ → Case → Meeting → Type 0 };
+    /// And this where the lines of the run are written.
+    ghost meets_shown: { Self → List ℕ → Case → Meeting → Type 0 };
 
     /// Runs a case over a new end. The client, be it the tester or that end, masks its frames with `key`.
     fn run(&self, alloc: Global, case: &Case, key: [u8; 4]) -> Result<Meeting, NoMemory>
         requires { CanBeRun case.now }
         ensures { IfOk result (λ meeting. meets self.now key case.now meeting) };
 
-    /// The same, and the observer is told of the run: over a network as it goes on, in memory once it has ended.
-    fn run_told<O: Observer>(
+    /// The same, and the lines of the run are written: over a network as it goes on, each before anything else happens
+    /// there, and in memory once it has ended.
+    fn run_shown<W: Write>(
         &self,
         alloc: Global,
         case: &Case,
         key: [u8; 4],
-        observer: &mut O,
-    ) -> Result<Meeting, O::Fault>
+        showing: Showing,
+        writer: &mut Watched<W>,
+    ) -> Result<Meeting, LineStop>
         requires runs { CanBeRun case.now }
-        requires hearing { IsHearing O.heard observer.old }
-        ensures meets { IfOk result (λ meeting. meets_told self.now key case.now meeting) }
-        ensures told { IfOk result (λ meeting.
-            HearsProbe O.heard O.heard_all observer.old observer.new (probe_of meeting)) }
-        ensures borrow { O.borrow observer.new ≡ O.borrow observer.old };
+        requires works { has_failed writer.old ≡ false }
+        ensures meets { IfOk result (λ meeting. meets_shown self.now key case.now meeting) }
+        ensures shown { IfOk result (λ meeting.
+            ShowsMeeting showing meeting (watched W.contents writer.old writer.new)) }
+        ensures stops { IfErr result (λ why. MayStopLines (meets_shown self.now key case.now) why) };
 }
 
 /// Who stands in memory.
@@ -67,38 +75,43 @@ pub struct MemoryEnd {
 impl CaseServer for MemoryEnd {
     ghost meets = { MeetsInMemory };
 
-    ghost meets_told = { MeetsInMemory };
+    ghost meets_shown = { MeetsInMemory };
 
     fn run(&self, alloc: Global, case: &Case, key: [u8; 4]) -> Result<Meeting, NoMemory> {
         let transcript = transcript_of(alloc, *self, case, key)?;
         Ok(Meeting::Ran(transcript))
     }
 
-    fn run_told<O: Observer>(
+    fn run_shown<W: Write>(
         &self,
         alloc: Global,
         case: &Case,
         key: [u8; 4],
-        observer: &mut O,
-    ) -> Result<Meeting, O::Fault> {
+        showing: Showing,
+        writer: &mut Watched<W>,
+    ) -> Result<Meeting, LineStop> {
         let transcript = transcript_of(alloc, *self, case, key)?;
-        tell_transcript(&transcript, observer)?;
-        Ok(Meeting::Ran(transcript))
+        match show_ended(alloc, showing, &transcript, writer) {
+            Ok(()) => Ok(Meeting::Ran(transcript)),
+            Err(ShowFault::Write) => Err(LineStop::Output),
+            Err(ShowFault::NoMemory) => Err(LineStop::NoMemory),
+        }
     }
 }
 
-/// Tells an observer of a run that has ended.
-fn tell_transcript<O: Observer>(transcript: &Transcript, observer: &mut O) -> Result<(), O::Fault>
-    requires { IsHearing O.heard observer.old }
-    ensures told { OnOk result (HearsProbe O.heard O.heard_all observer.old observer.new (Ran transcript.now)) }
-    ensures borrow { O.borrow observer.new ≡ O.borrow observer.old }
+/// Writes the lines of a run that has ended.
+fn show_ended<W: Write>(
+    alloc: Global,
+    showing: Showing,
+    transcript: &Transcript,
+    writer: &mut Watched<W>,
+) -> Result<(), ShowFault>
+    requires { has_failed writer.old ≡ false }
+    ensures { OnOk result (HasWrittenRun showing transcript.now (watched W.contents writer.old writer.new)) }
 {
-    let turns = transcript.turns.as_slice();
-    for turn in turns {
-        observer.turn_sent(turn.sent.as_slice())?;
-        observer.got(turn.got.as_slice())?;
-    }
-    observer.ended(transcript.ended)?;
+    let text = lines_of(alloc, showing, transcript)?;
+    write_whole(writer, text.as_slice())?;
+    flush(writer)?;
     Ok(())
 }
 

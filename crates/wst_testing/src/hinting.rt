@@ -164,7 +164,7 @@ pub fn tell_missed_echo<F: Write>(missed: bool, faults: &mut Watched<F>)
 fn missed_echo_hint() -> &'static [u8]
     ensures { result.now ≡ missed_echo_hint }
 {
-    b"the replies are not those of an echo: if the endpoint doesn't echo, add --expect protocol\n"
+    b"nothing came back, or not what an echo sends: if the endpoint doesn't echo, add --expect protocol\n"
 }
 
 /// Whether it is a Fail that only an end can get of which an echo is expected.

@@ -5,7 +5,8 @@
 //! that end, in memory (`MemoryEnd`) or at an address (`AddressServer`): as each `CaseServer` it runs a case over a new
 //! one; `run_cases`, which runs cases over an end and tells a `Sink` of each; `test_cases`, `capture_case` and
 //! `sweep_scripts`, runs of cases; `Outcome`, `Tally` and `Score`, what came of them; `report_case` and `close_report`,
-//! what a report has of them; `LineWriter`, which tells a run turn by turn; `known_given`, the deviations that are
+//! what a report has of them; `LineOutput`, the output as the sink of a loop's
+//! lines, and `LineWriter`, which is told of a run turn by turn; `known_given`, the deviations that are
 //! known of an end.
 #![tactic(auto)]
 
@@ -16,8 +17,8 @@ mod head_rules;
 mod hinting;
 mod known_input;
 pub mod laws;
+mod line_output;
 mod line_writer;
-mod marked_lines;
 mod outcome;
 mod run_plans;
 mod runner;
@@ -34,7 +35,6 @@ pub use head_rules::head_rule;
 pub use hinting::{misses_echo, tell_missed_echo};
 pub use known_input::{KnownStop, known_given, tell_known_stop};
 pub use line_writer::{LineStop, LineWriter};
-pub use marked_lines::MarkedLines;
 pub use outcome::{
     Outcome, Reported, Score, Tally, ToldRefusal, behind_text, close_report, is_fail, report_case,
     tell_beside, total_line,

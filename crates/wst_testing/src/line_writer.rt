@@ -1,17 +1,17 @@
 //! The lines of a run over a connection, written as it goes on.
 
-ghost use Rattle.std.specs.Prelude.{◌≡◌, ◌+◌, ◌<◌, ◌^◌, IfSome, OnOk, [], false};
-ghost use Rattle.std.specs.Io.KnownBytes.{Keeps};
-ghost use Rattle.ws_frame.specs.Watching.{has_failed, inner_of};
-ghost use Rattle.wst_testing.specs.LineWriting.{AreCounted, HasToldMarked};
+ghost use Rattle.std.specs.Prelude.{◌≡◌, []};
+ghost use Rattle.ws_shown.specs.MarkedLines.{AreCounted, HasToldMarked};
 
-use crate::marked_lines::MarkedLines;
+use crate::line_output::flush;
 use std::alloc::Global;
 use std::io::Write;
 use ws_base::NoMemory;
 use ws_connection::Observer;
 use ws_frame::{ShowFault, Watched, WriteFault};
 use ws_lines::Showing;
+use ws_loops::WaitFailed;
+use ws_shown::{MarkedLines, Places};
 use ws_suite::Ended;
 
 /// Why no more lines are written.
@@ -21,9 +21,25 @@ pub enum LineStop {
     Output,
     /// Memory ran out; a run whose places 64 bits can't tell has no room in any.
     NoMemory,
+    /// The network could not be waited for.
+    Network,
+}
+
+impl From<WaitFailed> for LineStop {
+    ghost use Rattle.wst_testing.specs.declared.line_writer.LineStop.TheVariants as stop;
+
+    ghost from_gives = { λ _ given. given ≡ stop.Network };
+
+    fn from(_failed: WaitFailed) -> LineStop {
+        LineStop::Network
+    }
 }
 
 impl From<NoMemory> for LineStop {
+    ghost use Rattle.wst_testing.specs.declared.line_writer.LineStop.TheVariants as stop;
+
+    ghost from_gives = { λ _ given. given ≡ stop.NoMemory };
+
     fn from(_refused: NoMemory) -> LineStop {
         LineStop::NoMemory
     }
@@ -39,46 +55,12 @@ impl From<ShowFault> for LineStop {
 }
 
 impl From<WriteFault> for LineStop {
+    ghost use Rattle.wst_testing.specs.declared.line_writer.LineStop.TheVariants as stop;
+
+    ghost from_gives = { λ _ given. given ≡ stop.Output };
+
     fn from(_failed: WriteFault) -> LineStop {
         LineStop::Output
-    }
-}
-
-/// How many turns were told, and how many bytes of each direction.
-#[derive(Clone, Copy)]
-pub struct Places {
-    turns: u64,
-    sent: u64,
-    got: u64,
-}
-
-impl Places {
-    /// With one more turn, which has sent so many bytes. `None` where 64 bits can't tell that.
-    fn with_turn(self, sent: usize) -> Option<Places>
-        ensures turns { IfSome result (λ places. places.turns ≡ self.turns + 1) }
-        ensures sent { IfSome result (λ places. places.sent ≡ self.sent + sent) }
-        ensures got { IfSome result (λ places. places.got ≡ self.got) }
-        ensures fits { IfSome result (λ places. (self.turns + 1 < 2 ^ 64) × (self.sent + sent < 2 ^ 64)) }
-    {
-        Some(Places {
-            turns: self.turns.checked_add(1)?,
-            sent: self.sent.checked_add(sent as u64)?,
-            got: self.got,
-        })
-    }
-
-    /// With so many bytes more that were got. `None` where 64 bits can't tell that.
-    fn with_got(self, got: usize) -> Option<Places>
-        ensures turns { IfSome result (λ places. places.turns ≡ self.turns) }
-        ensures sent { IfSome result (λ places. places.sent ≡ self.sent) }
-        ensures got { IfSome result (λ places. places.got ≡ self.got + got) }
-        ensures fits { IfSome result (λ places. self.got + got < 2 ^ 64) }
-    {
-        Some(Places {
-            turns: self.turns,
-            sent: self.sent,
-            got: self.got.checked_add(got as u64)?,
-        })
     }
 }
 
@@ -112,11 +94,7 @@ impl<'a, W> LineWriter<'a, W> {
             alloc,
             showing,
             lines,
-            places: Places {
-                turns: 0,
-                sent: 0,
-                got: 0,
-            },
+            places: Places::none(),
             writer,
         }
     }
@@ -161,17 +139,5 @@ impl<W: Write> Observer for LineWriter<'_, W> {
         self.lines.end(self.writer, ended)?;
         flush(self.writer)?;
         Ok(())
-    }
-}
-
-/// Flushes what was written.
-fn flush<W: Write>(writer: &mut Watched<W>) -> Result<(), LineStop>
-    requires { has_failed writer.old ≡ false }
-    ensures kept { Keeps (W.contents (inner_of writer.old)) (W.contents (inner_of writer.new)) }
-    ensures works { OnOk result (has_failed writer.new ≡ false) }
-{
-    match writer.flush() {
-        Ok(()) => Ok(()),
-        Err(_) => Err(LineStop::Output),
     }
 }

@@ -501,6 +501,10 @@ fn address_text(advice: Advice) -> &'static [u8]
             b"bad address\n  no user before the host: ws://HOST:PORT/PATH, see --header\n",
         Advice::Port =>
             b"bad address\n  a port is at most 65535, and 80 without one: ws://HOST:PORT/PATH\n",
+        Advice::Unencoded => {
+            b"bad address\n  a URL is visible ASCII: a space is %20, and an umlaut such as %C3%BC\n"
+        }
+        Advice::Fragment => b"bad address\n  no fragment: a # of a path or a query is %23\n",
         Advice::Url => b"bad address\n  an address to listen at is wanted: HOST:PORT\n",
         Advice::Nothing => b"bad address\n",
     }

@@ -3,21 +3,24 @@
 
 ghost use Rattle.std.specs.Prelude.{◌≡◌, [], None, IfOk, OnErr, OnOk};
 ghost use Rattle.std.specs.List.{All};
-ghost use Rattle.ws_connection.specs.Observing.{HearsProbe, IsHearing};
+ghost use Rattle.ws_frame.specs.Devices.{watched};
+ghost use Rattle.ws_frame.specs.Watching.{has_failed};
 ghost use Rattle.ws_scripts.specs.Scripts.{CanBeRun};
-ghost use Rattle.wst_sockets.specs.Meetings.{probe_of};
+ghost use Rattle.wst_testing.specs.LineOutputs.{ShowsMeeting};
 ghost use Rattle.wst_testing.specs.Ends.{IsEndOfPlan};
 ghost use Rattle.wst_testing.specs.Runner.{AwaitsCase, AwaitsOutcome, HasGiven, HearsCase, HearsMeeting, IsListed};
 ghost use Rattle.wst_testing.specs.Runner.{MovesOn, RunsEach};
 
 use crate::address_server::AddressServer;
 use crate::case_server::{CaseServer, MemoryEnd};
+use crate::line_writer::LineStop;
 use crate::run_plans::{RunPlan, TestedEnd};
 use std::alloc::Global;
+use std::io::Write;
 use std::marker::Model;
 use ws_base::NoMemory;
-use ws_connection::Observer;
-use ws_frame::WriteFault;
+use ws_frame::{Watched, WriteFault};
+use ws_lines::Showing;
 use ws_suite::Case;
 use wst_network::Connector;
 use wst_sockets::{ConnectFault, Meeting, Network};
@@ -169,11 +172,11 @@ impl<'a, N, C> End<'a, N, C> {
 }
 
 impl<N: Network, C: Connector> CaseServer for End<'_, N, C> {
-    ghost use Rattle.wst_testing.specs.Ends.{MeetsEnd, MeetsEndByCalls};
+    ghost use Rattle.wst_testing.specs.Ends.{MeetsEnd, MeetsEndShown};
 
     ghost meets = { λ end key case meeting. MeetsEnd end key case meeting };
 
-    ghost meets_told = { λ end key case meeting. MeetsEndByCalls end key case meeting };
+    ghost meets_shown = { λ end key case meeting. MeetsEndShown end key case meeting };
 
     fn run(&self, alloc: Global, case: &Case, key: [u8; 4]) -> Result<Meeting, NoMemory> {
         match self {
@@ -182,16 +185,17 @@ impl<N: Network, C: Connector> CaseServer for End<'_, N, C> {
         }
     }
 
-    fn run_told<O: Observer>(
+    fn run_shown<W: Write>(
         &self,
         alloc: Global,
         case: &Case,
         key: [u8; 4],
-        observer: &mut O,
-    ) -> Result<Meeting, O::Fault> {
+        showing: Showing,
+        writer: &mut Watched<W>,
+    ) -> Result<Meeting, LineStop> {
         match self {
-            End::Memory(end) => end.run_told(alloc, case, key, observer),
-            End::Address(server) => server.run_told(alloc, case, key, observer),
+            End::Memory(end) => end.run_shown(alloc, case, key, showing, writer),
+            End::Address(server) => server.run_shown(alloc, case, key, showing, writer),
         }
     }
 }

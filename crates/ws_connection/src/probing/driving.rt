@@ -7,11 +7,12 @@ ghost use Rattle.ws_tester.specs.RunStates.{wanted_in};
 ghost use Rattle.ws_connection.specs.Stages.{BeginsSomeRun, RunsOnStage};
 
 use crate::probing::stage_stream::serve_on;
-use crate::probing::telling::{TurnsTold, tell_run};
+use crate::probing::telling::tell_run;
 use crate::stage::Stage;
 use ws_frame::READ_SIZE;
 use ws_machines::Machine;
 use ws_session::laws::one_list_of_events;
+use ws_shown::TurnsTold;
 use ws_tester::Tester;
 
 /// Runs a tester on a stage until it is done. Before each further step the stage is told what is certain by then: so

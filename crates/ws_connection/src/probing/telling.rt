@@ -2,38 +2,15 @@
 
 ghost use Rattle.std.specs.Prelude.{◌≡◌, ◌≤◌, ◌++◌, ◌∷◌, [], ℕ, List, length, true, false, OnOk};
 ghost use Rattle.ws_scripts.specs.declared.transcript.Turn.{Turn};
-ghost use Rattle.ws_connection.specs.InnerDriving.{IsPartOf, IsToldOfRun, IsToldSoFar, MayBeToldMore};
+ghost use Rattle.ws_connection.specs.InnerDriving.{MayBeToldMore};
+ghost use Rattle.ws_shown.specs.TurnsTold.{IsPartOf, IsToldOfRun, IsToldSoFar};
 ghost use Rattle.ws_connection.specs.InnerDriving.{TellsMore, TellsPast, TellsRun};
 
 use crate::stage::Stage;
 use ws_machines::Machine;
+use ws_shown::TurnsTold;
 use ws_suite::Turn;
 use ws_tester::Tester;
-
-/// Of which turns a stage was told.
-#[derive(Clone, Copy)]
-pub struct TurnsTold {
-    /// So many turns were told to their end.
-    pub whole: usize,
-    /// What the one after them has sent was told.
-    pub is_sent: bool,
-    /// So many bytes that it has got were told.
-    pub got: usize,
-}
-
-impl TurnsTold {
-    /// Nothing was told yet.
-    pub fn none() -> TurnsTold
-        ensures whole { result.whole ≡ 0 }
-        ensures sent { result.is_sent ≡ false }
-    {
-        TurnsTold {
-            whole: 0,
-            is_sent: false,
-            got: 0,
-        }
-    }
-}
 
 /// Tells the stage what it wasn't told yet of the turns that are over, and of the turn under way once all of it is
 /// sent.

@@ -5,7 +5,8 @@ use Rattle.ws_frame.specs.Devices.{IsUntouched, watched}
 use Rattle.ws_frame.specs.Watching.{has_failed, inner_of}
 use Rattle.ws_lines.specs.declared.transcript_lines.Showing.{Showing}
 use Rattle.wst_sockets.specs.Accepting.{client_wait}
-use Rattle.wst_testing.specs.LineWriting.{HasToldMarked, HasWrittenRun}
+use Rattle.ws_shown.specs.MarkedLines.{HasToldMarked}
+use Rattle.wst_testing.specs.LineWriting.{HasWrittenRun}
 use Rattle.wst_testing.proofs.LineLemmas.{nothing_written, shown_by}
 use Rattle.wst_run.proofs.SendLemmas.{shows_client}
 use Rattle.wst_run.proofs.clients_at.script_told.Goals as goal

@@ -1,7 +1,7 @@
 -- The lines of which no turn has begun are shown as those of a client.
 use Rattle.std.proofs.Common.{[], subst}
 use Rattle.ws_lines.specs.declared.transcript_lines.Showing.{Showing}
-use Rattle.wst_testing.specs.LineWriting.{HasToldMarked}
+use Rattle.ws_shown.specs.MarkedLines.{HasToldMarked}
 use Rattle.wst_run.proofs.clients_at.show_script.Goals as goal
 
 pub script_told-requires-clause-begun : goal.script_told-requires-clause-begun

@@ -20,9 +20,9 @@ returns-in_err-write_whole-in-Ran g c =
     let failed : has_failed c.write_whole.new.writer ≡ true = search rules in
     let same : c.as_slice.result.now ≡ text = search rules in
     let begun = subst (λ (l : List ℕ). HasBegun l output) same c.in_err-write_whole-in-Ran.ensures.begun in
-    subst (λ (r : Result Bool SendStop). SendsCase (g.S.CaseServer.meets_told c.args.server.now plan.run.key) plan
+    subst (λ (r : Result Bool SendStop). SendsCase (g.S.CaseServer.meets c.args.server.now plan.run.key) plan
     c.args.case.now r output) (sym stops)
-    (failed, λ asked. (transcript, rw c.in-Ran.is at c.in_ok-transcript.ensures.meets, begun))
+    (failed, λ asked. (transcript, rw c.in-Ran.is at c.in_ok-transcript.ensures, begun))
 
 pub returns-in_ok-write_whole-in-Ran : goal.returns-in_ok-write_whole-in-Ran
 returns-in_ok-write_whole-in-Ran g c =
@@ -34,7 +34,7 @@ returns-in_ok-write_whole-in-Ran g c =
     let same : c.as_slice.result.now ≡ text = search rules in
     let written = subst (λ (l : List ℕ). HasWritten l output) same c.in_ok-write_whole-in-Ran.ensures.written in (
       transcript,
-      rw c.in-Ran.is at c.in_ok-transcript.ensures.meets,
+      rw c.in-Ran.is at c.in_ok-transcript.ensures,
       inr (c.requires.captures, written, works),
       subst (λ (b : Bool). MissesEchoIn b plan.run.expected (tested_role plan.run.tested) transcript false)
           (sym c.requires.captures) refl,

@@ -1,7 +1,7 @@
 -- The input was read whole.
 use Rattle.std.proofs.Common.{ℕ, List, inl, subst}
 use Rattle.ws_frame.specs.Devices.{watched}
-use Rattle.wst_run.specs.Send.{SendsText}
+use Rattle.wst_run.specs.Send.{MeetsAs, SendsText}
 use Rattle.wst_run.proofs.send.send_input.Goals as goal
 
 pub returns-in-Ok : goal.returns-in-Ok
@@ -11,6 +11,8 @@ returns-in-Ok g c =
     inl (
       c.in-Ok.text.items,
       c.in-Ok.ensures,
-      subst (λ (l : List ℕ). SendsText (g.S.CaseServer.meets_told c.args.server.now c.args.plan.now.run.key) c.args.plan.now l c.send_text.result output faults)
+      subst (λ (l : List ℕ). SendsText (MeetsAs c.args.plan.now.capture
+          (g.S.CaseServer.meets c.args.server.now c.args.plan.now.run.key)
+          (g.S.CaseServer.meets_shown c.args.server.now c.args.plan.now.run.key)) c.args.plan.now l c.send_text.result output faults)
           c.as_slice.ensures.value c.send_text.ensures,
     )

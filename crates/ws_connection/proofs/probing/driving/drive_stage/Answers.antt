@@ -5,7 +5,8 @@ use Rattle.ws_tester.proofs.RecordsEnd.{one_standing_is}
 use Rattle.ws_connection.specs.InnerDriving.{TellsRun}
 use Rattle.ws_connection.specs.RunSteps.{calls_in, turns_told}
 use Rattle.ws_connection.proofs.DrivingLemmas.{all_told, begins_driving, drives_call, drives_may_tell, drives_tell}
-use Rattle.ws_connection.proofs.DrivingLemmas.{ends_driving, not_ended}
+use Rattle.ws_connection.proofs.DrivingLemmas.{ends_driving}
+use Rattle.ws_shown.proofs.RunLemmas.{not_ended}
 use Rattle.ws_connection.proofs.probing.driving.drive_stage.Goals as goal
 
 pub steps-init : goal.steps-init

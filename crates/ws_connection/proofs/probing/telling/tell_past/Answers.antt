@@ -2,8 +2,9 @@
 use Rattle.std.proofs.Common.{◌≡◌, ◌∙◌, ◌+◌, ◌∷◌, ◌++◌, List, [], ℕ, false, drop, arith, refl, sym, ap, subst}
 use Rattle.std.proofs.lemmas.List.{drop_more}
 use Rattle.ws_scripts.specs.declared.transcript.Turn.{Turn}
-use Rattle.ws_connection.specs.InnerDriving.{IsPartOf, TellsMore}
-use Rattle.ws_connection.specs.declared.probing.telling.TurnsTold.{TurnsTold}
+use Rattle.ws_connection.specs.InnerDriving.{TellsMore}
+use Rattle.ws_shown.specs.TurnsTold.{IsPartOf}
+use Rattle.ws_shown.specs.declared.turns_told.TurnsTold.{TurnsTold}
 use Rattle.ws_connection.proofs.TellingLemmas.{may_hearing, of_parts, past_ends, past_step, past_then, tells_nothing}
 use Rattle.ws_connection.proofs.probing.telling.tell_past.Goals as goal
 

@@ -1,7 +1,8 @@
 -- What was told before, and since then, of the turns that are over.
 use Rattle.std.proofs.Common.{◌≡◌, ◌≤◌, ◌-◌, true, List, length}
 use Rattle.ws_scripts.specs.declared.transcript.Turn.{Turn}
-use Rattle.ws_connection.specs.InnerDriving.{IsToldSoFar, MayBeToldMore, TellsMore}
+use Rattle.ws_connection.specs.InnerDriving.{MayBeToldMore, TellsMore}
+use Rattle.ws_shown.specs.TurnsTold.{IsToldSoFar}
 use Rattle.ws_connection.proofs.probing.telling.tell_past.Given as goal
 
 abbrev pub invariant-turns : goal.invariant-turns

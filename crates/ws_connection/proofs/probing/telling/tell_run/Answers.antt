@@ -2,8 +2,9 @@
 use Rattle.std.proofs.Common.{◌≡◌, ◌∙◌, ◌++◌, ◌∷◌, List, [], true, length, sym, rules, subst}
 use Rattle.ws_scripts.specs.declared.transcript.Turn.{Turn}
 use Rattle.ws_tester.specs.RunStates.{wanted_in}
-use Rattle.ws_connection.specs.InnerDriving.{IsPartOf, IsToldSoFar, TellsMore, TellsPast, TellsRun}
-use Rattle.ws_connection.specs.declared.probing.telling.TurnsTold.{TurnsTold}
+use Rattle.ws_connection.specs.InnerDriving.{TellsMore, TellsPast, TellsRun}
+use Rattle.ws_shown.specs.TurnsTold.{IsPartOf, IsToldSoFar}
+use Rattle.ws_shown.specs.declared.turns_told.TurnsTold.{TurnsTold}
 use Rattle.ws_connection.proofs.TellingLemmas.{empty_is, not_empty, of_parts, run_sent, run_unsent, so_far}
 use Rattle.ws_connection.proofs.probing.telling.tell_run.Goals as goal
 use Rattle.ws_connection.proofs.probing.telling.tell_run.Goals.{then-is_empty+in_ok-tell_turn, else-is_empty}

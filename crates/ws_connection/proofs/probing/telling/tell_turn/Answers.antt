@@ -1,6 +1,6 @@
 -- A turn of which a part was told is told to its end, and so is one of which nothing was.
 use Rattle.std.proofs.Common.{◌∙◌, length, [], true, refl, sym, ap}
-use Rattle.ws_connection.specs.declared.probing.telling.TurnsTold.{TurnsTold}
+use Rattle.ws_shown.specs.declared.turns_told.TurnsTold.{TurnsTold}
 use Rattle.ws_connection.proofs.TellingLemmas.{turn_anew}
 use Rattle.ws_connection.proofs.probing.telling.tell_turn.Goals as goal
 

@@ -1,0 +1,5 @@
+pub mod MarkedLines
+pub mod LineRooms
+pub mod TurnsTold
+pub mod ShownTesters
+pub mod ShownProbes
