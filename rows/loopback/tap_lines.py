@@ -116,14 +116,14 @@ def a_connection():
     tap.ends()
 
 
-def in_592_kib_of_stack():
+def in_512_kib_of_stack():
     """With the stack that docs/proof/ASSUMPTIONS.md says is enough: a connection with 1 MiB each way, in each style."""
     million = 1024 * 1024
     text = bytes.fromhex("827f0000000000100000") + bytes(million)
     masked = bytes.fromhex("82ff000000000010000000000000") + bytes(million)
     quoted = '"' + "\\u0000" * 64 + '"..'
     for style, zeros in [("hex", "00" * 16 + ".."), ("text", quoted), ("all", "00" * million)]:
-        tap = Tap(before=keep_to_592_kib_of_stack, options=(f"--data={style}",))
+        tap = Tap(before=keep_to_512_kib_of_stack, options=(f"--data={style}",))
         client, server = tap.open_pair()
         told = f"> 0 binary fin=1 rsv=0 key=00000000 len=1048576 eight {zeros}"
         at_once(
@@ -142,8 +142,8 @@ def in_592_kib_of_stack():
         tap.ends()
 
 
-def keep_to_592_kib_of_stack():
-    resource.setrlimit(resource.RLIMIT_STACK, (592 * 1024, 592 * 1024))
+def keep_to_512_kib_of_stack():
+    resource.setrlimit(resource.RLIMIT_STACK, (512 * 1024, 512 * 1024))
 
 
 def same(got, wanted):
@@ -497,7 +497,7 @@ def a_server_and_a_tester_of_ours():
 
 TESTS = [
     a_connection,
-    in_592_kib_of_stack,
+    in_512_kib_of_stack,
     a_line_once_its_frame_is_whole,
     frames_that_come_with_the_heads,
     heads_in_pieces,
