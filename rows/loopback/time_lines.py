@@ -6,6 +6,7 @@ import signal
 import subprocess
 import threading
 import time
+from pathlib import Path
 
 from send_lines import NO_ECHO, SCRIPT, SENT_HELLO, TURN_1, Sent
 from server import SECONDS, Tested
@@ -101,14 +102,33 @@ def pongs_that_no_open_ping_asked_for():
 
 
 def a_write_that_is_blocked():
-    """It fails after the time limit, also where a part of it was taken, and the wait behind it has nothing left."""
+    """It fails after the time limit, which begins anew with what the system takes of it, and the wait behind it has
+    nothing left."""
     server = Sent(SENT_16_MIB, "--timeout=2")
     client = server.accepted(RESPONSE)
-    with Clock(1.8, 3):
-        lines = server_lines(server)
-        assert lines[-1] == "end broken", lines
+    taken, since = 0, time.monotonic()
+    while server.process.poll() is None:
+        now = unread_at(server.listener)
+        if now > taken + 1:  # the end of a direction counts as one
+            taken, since = now, time.monotonic()
+        time.sleep(0.02)
+    took = time.monotonic() - since
+    assert 1.8 < took < 3, f"it took {took:.2f} s"
+    assert taken > 65536, taken
+    assert server_lines(server)[-1] == "end broken"
     assert server.process.wait(SECONDS) == 0
     client.close()
+
+
+def unread_at(listener):
+    """How many bytes the system has taken for connections to this listener that their end here hasn't read."""
+    port = f":{listener.getsockname()[1]:04X}"
+    unread = 0
+    for row in Path("/proc/net/tcp").read_text().splitlines()[1:]:
+        local, remote, _, queues = row.split()[1:5]
+        sent, got = (int(queue, 16) for queue in queues.split(":"))
+        unread += sent if remote.endswith(port) else got if local.endswith(port) else 0
+    return unread
 
 
 def server_lines(server):
