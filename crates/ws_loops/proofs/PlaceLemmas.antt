@@ -7,7 +7,9 @@ use Rattle.std.specs.List.{slice_get}
 use Rattle.std.proofs.lemmas.Option.{none-some, same_Some, slice_get_read, slice_get_within}
 use Rattle.std.proofs.Common.{is_some, slice_index_or}
 use Rattle.ws_loops.specs.Loops.{AtEachPlace, HasAll, IsFrom}
-use Rattle.ws_loops.specs.Places.{AreOccupied, IsFirstFree, Kind, StayOfKind, is_empty, place_kind}
+use Rattle.ws_machines.specs.Machines.{Wants}
+use Rattle.ws_loops.specs.Places.{AreOccupied, IsFirstFree, IsPlaceOver, Kind, StayOfKind, is_empty, is_stirred}
+use Rattle.ws_loops.specs.Places.{place_kind}
 use Rattle.ws_loops.specs.Places.Kind.{Nothing, Slotted, UnderWay}
 use Rattle.ws_loops.specs.declared.places.Place.{Place}
 use Rattle.ws_loops.specs.declared.places.Place.TheVariants.{Empty, Open, Pending, Broken}
@@ -187,25 +189,50 @@ module _ {M S : Type 0} where
   kinds_same places = record {
     len = refl;
     each = λ i x y was is. ap place_kind (same_Some y x (sym is ∙ was));
+    stirred = λ i x y was is e. ap is_stirred (same_Some y x (sym is ∙ was)) ∙ e;
   }
 
   pub kinds_then : (a b c : List (Place M S)) → StayOfKind a b → StayOfKind b c → StayOfKind a c
   kinds_then a b c h k = record {
     len = k.len ∙ h.len;
-    each = λ i x z was is. through i x z was is (place_of b i (omega (arith, h.len, slice_get_within a i x was)));
+    each = λ i x z was is. through i x z was is (between i x was);
+    stirred = λ i x z was is e. stays i x z was is e (between i x was);
   }
     where
+      between : (i : ℕ) (x : Place M S) → slice_get a i ≡ Some x → (y : Place M S) × (slice_get b i ≡ Some y)
+      between i x was = place_of b i (omega (arith, h.len, slice_get_within a i x was))
+
       through : (i : ℕ) (x z : Place M S) → slice_get a i ≡ Some x → slice_get c i ≡ Some z
           → (y : Place M S) × (slice_get b i ≡ Some y) → place_kind z ≡ place_kind x
       through i x z was is (y, mid) = k.each i y z mid is ∙ h.each i x y was mid
 
-  pub kinds_set : (places : List (Place M S)) (at : ℕ) (x y : Place M S) → slice_get places at ≡ Some x
-      → place_kind y ≡ place_kind x → StayOfKind places (slice_set places at y)
-  kinds_set places at x y there same = record {
+      stays : (i : ℕ) (x z : Place M S) → slice_get a i ≡ Some x → slice_get c i ≡ Some z → is_stirred x ≡ true
+          → (y : Place M S) × (slice_get b i ≡ Some y) → is_stirred z ≡ true
+      stays i x z was is e (y, mid) = k.stirred i y z mid is (h.stirred i x y was mid e)
+
+  -- one that was stirred is over
+  stirred_over : (wants : M → Wants) (x : Place M S) → is_stirred x ≡ true → IsPlaceOver wants x
+  stirred_over wants Empty e = absurd (false≢true e)
+  stirred_over wants (Open slot) e = absurd (false≢true e)
+  stirred_over wants (Pending watch) e = e
+  stirred_over wants Broken e = tt
+
+  -- one that was not over stands there anew
+  pub kinds_set : (wants : M → Wants) (places : List (Place M S)) (at : ℕ) (x y : Place M S)
+      → slice_get places at ≡ Some x → (IsPlaceOver wants x → ⊥) → place_kind y ≡ place_kind x
+      → StayOfKind places (slice_set places at y)
+  kinds_set wants places at x y there going same = record {
     len = length_set places at y;
     each = λ i u v was is. by i u v was (set_cases places at y i v is);
+    stirred = λ i u v was is e. stays i u v was e (set_cases places at y i v is);
   }
     where
+      stays : (i : ℕ) (u v : Place M S) → slice_get places i ≡ Some u → is_stirred u ≡ true
+          → ((i ≡ at) × (v ≡ y)) ⊎ ((i ≡ at → ⊥) × (slice_get places i ≡ Some v)) → is_stirred v ≡ true
+      stays i u v was e (inl (here, is_y)) = absurd (going (stirred_over wants x (ap is_stirred (same_Some x u
+          (sym there ∙ (ap (λ (n : ℕ). slice_get places n) (sym here) ∙ was))) ∙ e)))
+      stays i u v was e (inr (_, is)) = ap is_stirred (same_Some v u (sym is ∙ was)) ∙ e
+
       by : (i : ℕ) (u v : Place M S) → slice_get places i ≡ Some u
           → ((i ≡ at) × (v ≡ y)) ⊎ ((i ≡ at → ⊥) × (slice_get places i ≡ Some v)) → place_kind v ≡ place_kind u
       by i u v was (inl (e, is_y)) = ap place_kind is_y ∙ (same ∙ ap place_kind (same_Some x u (sym there

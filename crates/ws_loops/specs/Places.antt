@@ -71,11 +71,20 @@ place_kind (Open slot) = Slotted
 place_kind (Pending watch) = UnderWay watch.until
 place_kind Broken = Slotted
 
--- no place is added or lost, and each is of the kind that it was
+-- a connection is under way for it that was stirred
+abbrev pub is_stirred : {M S : Type 0} → Place M S → Bool
+is_stirred Empty = false
+is_stirred (Open slot) = false
+is_stirred (Pending watch) = watch.stirred
+is_stirred Broken = false
+
+-- No place is added or lost, and each is of the kind that it was. A connection that was stirred stays so.
 pub record StayOfKind {M S : Type 0} (old new : List (Place M S)) : Type 0 where
   pub len : length new ≡ length old
   pub each : (i : ℕ) (x y : Place M S) → slice_get old i ≡ Some x → slice_get new i ≡ Some y
       → place_kind y ≡ place_kind x
+  pub stirred : (i : ℕ) (x y : Place M S) → slice_get old i ≡ Some x → slice_get new i ≡ Some y
+      → is_stirred x ≡ true → is_stirred y ≡ true
 
 -- This place is the first that is empty, or the one behind all others where none is.
 pub record IsFirstFree {M S : Type 0} (places : List (Place M S)) (at : ℕ) : Type 0 where

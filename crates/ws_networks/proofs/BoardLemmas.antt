@@ -19,7 +19,7 @@ use Rattle.ws_loops.specs.Paces.{has_ended_by, passes_at, sooner}
 use Rattle.ws_loops.specs.Places.{AreEmpty, AreOccupied, IsFirstFree, IsFirstToEnd, IsOverAt, IsPlaceOver, KeepTurns}
 use Rattle.ws_loops.specs.Places.{Kind}
 use Rattle.ws_loops.specs.Places.{NoneHasEnded, NoneIsOver}
-use Rattle.ws_loops.specs.Places.{IsSlotless, IsSlotlessAt, StayOfKind, is_empty, place_kind}
+use Rattle.ws_loops.specs.Places.{IsSlotless, IsSlotlessAt, StayOfKind, is_empty, is_stirred, place_kind}
 use Rattle.ws_loops.specs.Places.Kind.{Nothing, Slotted, UnderWay}
 use Rattle.ws_loops.specs.Sinks.{AreLinesOfPlaces, lines_at}
 use Rattle.ws_loops.specs.Slots.{IsAble}
@@ -33,7 +33,7 @@ use Rattle.ws_networks.specs.NetworkLoops.{AreFree, AreIdle, AreOfPlaces, HasAsk
 use Rattle.ws_networks.specs.Bounds.{gives_up_at, is_given_up}
 use Rattle.ws_networks.specs.NetworkLoops.{AreStandingsServed, IfTooLate, IsFirstOfFree, IsStandingServed}
 use Rattle.ws_networks.specs.NetworkLoops.{IsNetworkEnding, IsNetworkSound, IsOutboundSound, IsOverThere}
-use Rattle.ws_networks.specs.NetworkLoops.{IsStandingOver, IsTryingAt, NoneIsFree}
+use Rattle.ws_networks.specs.NetworkLoops.{IsStandingOver, IsTryingAt, NoneIsFree, NoneIsOverThere}
 use Rattle.ws_networks.specs.NetworkLoops.{IsHandedOut, IsHandedOutAs, Standing, network_value, outbound_by, own_ticket}
 use Rattle.ws_networks.specs.NetworkLoops.{place_by, standing_by, standing_of, handed_out, zip_by}
 use Rattle.ws_networks.specs.NetworkLoops.Standing.{Broke, Free, Lost, Served, Trying}
@@ -265,11 +265,12 @@ module _ {M S A W : Type 0} (agrees : M → M → List Told → Type 0) (wants :
 
   -- what stands in a place is of the same kind
   sound_kind : (p q : Place M S) (o : Outbound M A S W) → place_kind q ≡ place_kind p
+      → (is_stirred p ≡ true → is_stirred q ≡ true)
       → IsOutboundSound agrees wants did p o → IsOutboundSound agrees wants did q o
-  sound_kind p q outbound.Idle same h = λ until e. h until (sym same ∙ e)
-  sound_kind p q (outbound.Trying machine dial) same (under, able, fresh, within) =
+  sound_kind p q outbound.Idle same stays h = λ until e. h until (sym same ∙ e)
+  sound_kind p q (outbound.Trying machine dial) same stays (under, able, fresh, within) =
       (same ∙ under, able, fresh, within)
-  sound_kind p q (outbound.Missed why) same under = same ∙ under
+  sound_kind p q (outbound.Missed why) same stays (under, stirred) = (same ∙ under, stays stirred)
 
   pub sound_run : (l m : LoopValue M S) (beside : List (Outbound M A S W)) → StayOfKind l.places m.places
       → Sound l beside → Sound m beside
@@ -282,7 +283,8 @@ module _ {M S A W : Type 0} (agrees : M → M → List Told → Type 0) (wants :
       through : (i : ℕ) (q : Place M S) (o : Outbound M A S W) → slice_get m.places i ≡ Some q
           → slice_get beside i ≡ Some o → (p : Place M S) × (slice_get l.places i ≡ Some p)
           → IsOutboundSound agrees wants did q o
-      through i q o q_is o_is (p, p_is) = sound_kind p q o (k.each i p q p_is q_is) (h.each i p o p_is o_is)
+      through i q o q_is o_is (p, p_is) = sound_kind p q o (k.each i p q p_is q_is) (k.stirred i p q p_is q_is)
+          (h.each i p o p_is o_is)
 
   -- what has come of a connection is put there
   fits : (machine : M) (bounds : Bounds) (now : ℕ) (came : Dialled A S W) → IsAble agrees wants machine
@@ -290,7 +292,7 @@ module _ {M S A W : Type 0} (agrees : M → M → List Told → Type 0) (wants :
       → IsOutboundSound agrees wants did (place_by machine bounds now came) (outbound_by machine came)
   fits machine bounds now (dialled.Made stream) able fresh within = λ until e. subst (λ (k : Kind). is_under k) (sym e) tt
   fits machine bounds now (dialled.Waits dial) able fresh within = (refl, able, fresh, within)
-  fits machine bounds now (dialled.Missed why) able fresh within = refl
+  fits machine bounds now (dialled.Missed why) able fresh within = (refl, refl)
 
   pub sound_settled : (l m : LoopValue M S) (beside after : List (Outbound M A S W)) (at : ℕ) (machine : M)
       (bounds : Bounds) (now : ℕ) (came : Dialled A S W) → length beside ≡ length l.places
@@ -451,13 +453,31 @@ module _ {M S A W : Type 0} (agrees : M → M → List Told → Type 0) (wants :
       counted (outbound.Trying machine dial) h k = absurd (h machine dial refl)
       counted (outbound.Missed why) h k = refl
 
+  -- where no place is over, nothing has ended: one that was missed was stirred
+  none_over : (l : LoopValue M S) (beside : List (Outbound M A S W)) → Sound l beside → NoneIsOver wants l.places
+      → NoneIsOverThere wants (zip_by standing_of l.places beside)
+  none_over l beside h none i (x, x_is, over) =
+      let (p, o, p_is, o_is, so) = zip_of standing_of l.places beside i x x_is in
+      by p o p_is (h.each i p o p_is o_is) (subst (λ (y : Standing M S A W). IsOverThere wants y) so over)
+    where
+      by : (p : Place M S) (o : Outbound M A S W) → slice_get l.places i ≡ Some p
+          → IsOutboundSound agrees wants did p o → IsOverThere wants (standing_of p o) → ⊥
+      by Empty o p_is fits there = there
+      by (Open slot) o p_is fits there = none i (Open slot, p_is, there)
+      by Broken o p_is fits there = none i (Broken, p_is, tt)
+      by (Pending watch) outbound.Idle p_is fits there = there
+      by (Pending watch) (outbound.Trying machine dial) p_is fits there = there
+      by (Pending watch) (outbound.Missed why) p_is (under, stirred) there = none i (Pending watch, p_is, stirred)
+
   -- no more time, or nothing is there
   pub by_other : (l : LoopValue M S) (beside : List (Outbound M A S W)) (until : Option ℕ) (now : ℕ) (happened : Ending)
-      → (happened ≡ ending.TooLate) ⊎ (happened ≡ ending.NoSlot) → IsEnding wants until now l happened
+      → Sound l beside → (happened ≡ ending.TooLate) ⊎ (happened ≡ ending.NoSlot) → IsEnding wants until now l happened
       → IsNetworkEnding wants until now (network_value l beside) happened
-  by_other l beside until now happened (inl e) h = subst (λ (x : Ending). IsNetworkEnding wants until now
-      (network_value l beside) x) (sym e) (subst (λ (x : Ending). IsEnding wants until now l x) e h).0
-  by_other l beside until now happened (inr e) h = subst (λ (x : Ending). IsNetworkEnding wants until now
+  by_other l beside until now happened sound (inl e) h =
+      let (come, none) = subst (λ (x : Ending). IsEnding wants until now l x) e h in
+      subst (λ (x : Ending). IsNetworkEnding wants until now (network_value l beside) x) (sym e)
+      (come, none_over l beside sound none)
+  by_other l beside until now happened sound (inr e) h = subst (λ (x : Ending). IsNetworkEnding wants until now
       (network_value l beside) x) (sym e)
       (all_free l beside (subst (λ (x : Ending). IsEnding wants until now l x) e h))
 

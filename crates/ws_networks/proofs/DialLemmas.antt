@@ -10,7 +10,7 @@ use Rattle.ws_networks.specs.Networks.NetworkDeed.{Asked, Begun}
 use Rattle.ws_networks.specs.Bounds.{is_given_up}
 use Rattle.ws_networks.specs.Connecting.{AllMissed, AreMissed, HasDialled, HaveMissed, IsDialled, IsMissed, KeepsTries}
 use Rattle.ws_networks.specs.Connecting.{HasTriedOne, IsMissedBetween, IsTried, IsDialling, OneMade, WasBegun}
-use Rattle.ws_networks.specs.Connecting.{asked_often}
+use Rattle.ws_networks.specs.Connecting.{AreBegunBy, asked_often}
 use Rattle.ws_networks.specs.Connecting.{tried_by, tries_past}
 use Rattle.ws_networks.specs.declared.bounds.Bounds.{Bounds}
 use Rattle.ws_networks.specs.declared.network.Progress.{Progress}
@@ -25,7 +25,7 @@ use Rattle.ws_networks.specs.declared.dialing.Tried.TheVariants as tried
 use Rattle.ws_networks.specs.declared.dialing.Tries.{Tries}
 use Rattle.ws_networks.proofs.AddLemmas.{added_none, added_then}
 use Rattle.ws_networks.proofs.EachLemmas.{first_so, missed_more, one_behind, parts_at, take_each, take_one}
-use Rattle.ws_networks.proofs.TryLemmas.{many_more, own_then, same_number}
+use Rattle.ws_networks.proofs.TryLemmas.{begun_then, many_more, own_then, same_number}
 
 -- ---- the addresses that were missed
 
@@ -161,6 +161,7 @@ module _ {A W N : Type 0} (does : N → N → List (NetworkDeed A W) → Type 0)
     pub deeds : List (NetworkDeed A W)
     pub added : HasAdded does old new deeds
     pub own : AreDeedsOf at deeds
+    pub begun : AreBegunBy now deeds
     pub missed : (from : ℕ) (before : List (NetworkDeed A W)) → Missing at now first from before
         → Missing at now tries from (before ++ deeds)
 
@@ -171,6 +172,7 @@ module _ {A W N : Type 0} (does : N → N → List (NetworkDeed A W) → Type 0)
     deeds = [];
     added = added_none does old;
     own = tt;
+    begun = tt;
     missed = λ from before h. subst (λ (l : List (NetworkDeed A W)). HaveMissed at from now tries l)
         (sym (append-nil before)) h;
   }
@@ -180,13 +182,14 @@ module _ {A W N : Type 0} (does : N → N → List (NetworkDeed A W) → Type 0)
       → HaveTried first tries old mid → slice_get tries.addresses.items tries.missed ≡ Some address
       → HasTriedOne {A = A} {S = S} {W = W} does at tries.bounds now mid new address (tried.Missed why) → past ≡ tries_past why tries
       → HaveTried first past old new
-  next_missed S first tries past address why old mid new h is (one, added, own, missed) same =
+  next_missed S first tries past address why old mid new h is (one, added, own, begun, missed) same =
       subst (λ (t : Tries A W). HaveTried first t old new) (sym same) (record {
         addresses = h.addresses;
         bounds = h.bounds;
         deeds = h.deeds ++ one;
         added = added_then does old mid new h.deeds one h.added added;
         own = own_then at h.deeds one h.own own;
+        begun = begun_then now h.deeds one h.begun begun;
         missed = λ from before m. subst (λ (l : List (NetworkDeed A W)). HaveMissed at from now (tries_past why tries) l)
             (append_assoc before h.deeds one) (missed_past at from now now tries address why (before ++ h.deeds) one
             (h.missed from before m) is (now, now, omega arith, omega arith, omega arith, missed));
@@ -225,6 +228,7 @@ module _ {A S W N : Type 0} (does : N → N → List (NetworkDeed A W) → Type 
     deeds = Asked at p ∷ [];
     added = added;
     own = (same_number at, tt);
+    begun = (tt, tt);
     kept = tt;
     dialled = h;
   }
@@ -238,6 +242,7 @@ module _ {A S W N : Type 0} (does : N → N → List (NetworkDeed A W) → Type 
     deeds = Asked at p ∷ [];
     added = added;
     own = (same_number at, tt);
+    begun = (tt, tt);
     kept = (refl, refl);
     dialled = λ from before way. subst (λ (x : S). IsDialling at from now
         (record { tries = dial.tries; stream = x; since = dial.since }) (before ++ Asked at p ∷ [])) (sym same)
@@ -253,6 +258,7 @@ module _ {A S W N : Type 0} (does : N → N → List (NetworkDeed A W) → Type 
     deeds = Asked at p ∷ next.deeds;
     added = added_then does old mid new (Asked at p ∷ []) next.deeds added next.added;
     own = (same_number at, next.own);
+    begun = (tt, next.begun);
     kept = subst (λ (t : Tries A W). KeepsTries t.bounds t.addresses.items came) is next.kept;
     dialled = λ from before way. subst (λ (t : Tries A W). IsDialled at from now t.bounds t.addresses.items came
         (before ++ Asked at p ∷ next.deeds)) is
@@ -264,15 +270,16 @@ module _ {A S W N : Type 0} (does : N → N → List (NetworkDeed A W) → Type 
 
   -- what came of it by the addresses before and one thing more
   tries_then : (first tries : Tries A W) (came : Dialled A S W) (old mid new : N) (h : HaveTried does at now first tries old mid)
-      (one : List (NetworkDeed A W)) → HasAdded does mid new one → AreDeedsOf at one
+      (one : List (NetworkDeed A W)) → HasAdded does mid new one → AreDeedsOf at one → AreBegunBy now one
       → KeepsTries tries.bounds tries.addresses.items came
       → ((from : ℕ) (before : List (NetworkDeed A W)) → Missing at now tries from before
       → IsDialled at from now tries.bounds tries.addresses.items came (before ++ one))
       → Came first (Missing at now first) came old new
-  tries_then first tries came old mid new h one added own kept f = record {
+  tries_then first tries came old mid new h one added own begun kept f = record {
     deeds = h.deeds ++ one;
     added = added_then does old mid new h.deeds one h.added added;
     own = own_then at h.deeds one h.own own;
+    begun = begun_then now h.deeds one h.begun begun;
     kept = subst (λ (b : Bounds). KeepsTries b first.addresses.items came) h.bounds
         (subst (λ (a : List A). KeepsTries tries.bounds a came) h.addresses kept);
     dialled = λ from before m. subst (λ (b : Bounds). IsDialled at from now b first.addresses.items came
@@ -287,8 +294,8 @@ module _ {A S W N : Type 0} (does : N → N → List (NetworkDeed A W) → Type 
       → slice_get tries.addresses.items tries.missed ≡ Some address
       → HasTriedOne does at tries.bounds now mid new address (tried.Made stream)
       → Came first (Missing at now first) (dialled.Made stream) old new
-  next_made first tries address stream old mid new h is (one, added, own, made) =
-      tries_then first tries (dialled.Made stream) old mid new h one added own tt
+  next_made first tries address stream old mid new h is (one, added, own, begun, made) =
+      tries_then first tries (dialled.Made stream) old mid new h one added own begun tt
       (λ from before m. made_next at from now now now tries address before one m is (omega arith) (omega arith) made)
 
   -- it is waited for
@@ -296,16 +303,16 @@ module _ {A S W N : Type 0} (does : N → N → List (NetworkDeed A W) → Type 
       → slice_get tries.addresses.items tries.missed ≡ Some address
       → HasTriedOne does at tries.bounds now mid new address (tried.Waits stream)
       → Came first (Missing at now first) (dialled.Waits (record { tries = tries; stream = stream; since = now })) old new
-  next_waits first tries address stream old mid new h is (one, added, own, begun) =
+  next_waits first tries address stream old mid new h is (one, added, own, by_now, begun) =
       tries_then first tries (dialled.Waits (record { tries = tries; stream = stream; since = now })) old mid new h one
-      added own (refl, refl) (λ from before m. waits_next at from now tries stream address before one m is begun)
+      added own by_now (refl, refl) (λ from before m. waits_next at from now tries stream address before one m is begun)
 
   -- no address is left
   pub next_none : (first tries : Tries A W) (old new : N) → HaveTried does at now first tries old new
       → length tries.addresses.items ≤ tries.missed
       → Came first (Missing at now first) (dialled.Missed tries.first) old new
   next_none first tries old new h past = tries_then first tries (dialled.Missed tries.first) old new new h []
-      (added_none does new) tt tt (λ from before m. subst (λ (l : List (NetworkDeed A W)). AllMissed at tries.bounds from now
+      (added_none does new) tt tt tt (λ from before m. subst (λ (l : List (NetworkDeed A W)). AllMissed at tries.bounds from now
       tries.addresses.items tries.first l) (sym (append-nil before)) (none_left at from now tries before m past))
 
   -- none was tried before
@@ -317,6 +324,7 @@ module _ {A S W N : Type 0} (does : N → N → List (NetworkDeed A W) → Type 
     deeds = h.deeds;
     added = h.added;
     own = h.own;
+    begun = h.begun;
     kept = subst (λ (b : Bounds). KeepsTries b addresses came) alike
         (subst (λ (a : List A). KeepsTries tries.bounds a came) same h.kept);
     dialled = λ from before (le, nothing). subst (λ (b : Bounds). IsDialled at from now b addresses came

@@ -122,7 +122,7 @@ module _ {M S A W N K E : Type 0} (agrees : M → M → List Told → Type 0) (w
   over x is = by happened ended
     where
       by : (e : Ending) → IsNetworkEnding wants None to last e → IsOverThere wants x
-      by ending.TooLate late = absurd (false≢true late)
+      by ending.TooLate (late, none) = absurd (false≢true late)
       by ending.NoSlot none = absurd (there x is (none 0 x is))
       by (ending.Ended at) ((y, y_is, done), first_one) =
           let at_0 : at ≡ 0 = omega (

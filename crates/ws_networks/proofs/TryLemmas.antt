@@ -6,7 +6,7 @@ use Rattle.std.proofs.lemmas.Bool.Decides.{eqb_tells}
 use Rattle.ws_networks.specs.Networks.{AreDeedsOf, HasAdded, NetworkDeed, deeds_at, is_deed_of}
 use Rattle.ws_networks.specs.Networks.NetworkDeed.{Asked, Begun, NotBegun}
 use Rattle.ws_networks.specs.Bounds.{is_given_up}
-use Rattle.ws_networks.specs.Connecting.{HasTriedOne, IfTried, tried_by}
+use Rattle.ws_networks.specs.Connecting.{AreBegunBy, HasTriedOne, IfTried, tried_by}
 use Rattle.ws_networks.specs.declared.bounds.Bounds.{Bounds}
 use Rattle.ws_networks.specs.declared.network.Progress.{Progress}
 use Rattle.ws_networks.specs.declared.network.Progress.TheVariants as progress
@@ -28,6 +28,11 @@ pub own_then : {A W : Type 0} (at : ℕ) (one other : List (NetworkDeed A W)) �
 own_then at [] other h k = k
 own_then at (x ∷ one) other (is, h) k = (is, own_then at one other h k)
 
+pub begun_then : {A W : Type 0} (now : ℕ) (one other : List (NetworkDeed A W)) → AreBegunBy now one
+    → AreBegunBy now other → AreBegunBy now (one ++ other)
+begun_then now [] other h k = k
+begun_then now (x ∷ one) other (is, h) k = (is, begun_then now one other h k)
+
 -- one more of many that are alike
 pub one_more : {X : Type 0} (n : ℕ) (x : X) (rest : List X) → replicate n x ++ x ∷ rest ≡ x ∷ (replicate n x ++ rest)
 one_more zero x rest = refl
@@ -47,6 +52,7 @@ not_begun S did at bounds now old new address why added = (
   NotBegun at address why ∷ [],
   added,
   (same_number at, tt),
+  (tt, tt),
   inl refl,
 )
 
@@ -73,24 +79,28 @@ module _ {A S W N : Type 0} (did : N → N → List (NetworkDeed A W) → Type 0
         begun_and progress.Made,
         both progress.Made k,
         own progress.Made,
+        (refl, (tt, tt)),
         (Asked at progress.Made ∷ [], refl, (0, refl)),
       )
       by progress.Pending true k e = (
         begun_and progress.Pending,
         both progress.Pending k,
         own progress.Pending,
+        (refl, (tt, tt)),
         ((Asked at progress.Pending ∷ [], refl, (0, refl)), sym e),
       )
       by progress.Pending false k e = (
         begun_and progress.Pending,
         both progress.Pending k,
         own progress.Pending,
+        (refl, (tt, tt)),
         (Asked at progress.Pending ∷ [], refl, (0, refl)),
       )
       by (progress.Failed why) b k e = (
         begun_and (progress.Failed why),
         both (progress.Failed why) k,
         own (progress.Failed why),
+        (refl, (tt, tt)),
         inr (Asked at (progress.Failed why) ∷ [], refl, (0, refl)),
       )
 

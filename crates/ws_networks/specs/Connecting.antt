@@ -128,14 +128,25 @@ KeepsTries bounds addresses (dialled.Waits dial) = (dial.tries.addresses.items �
     × (dial.tries.bounds ≡ bounds)
 KeepsTries bounds addresses _ = ⊤
 
--- The network did some things more for it, all of them for this place: whatever was done since some time of which the
--- first property says how it stood, what came of it is by that and these.
+-- a connection that was begun so was begun by this time
+abbrev pub IsBegunBy : {A W : Type 0} → ℕ → NetworkDeed A W → Type 0
+IsBegunBy now (Begun at address since) = since ≡ now
+IsBegunBy now _ = ⊤
+
+abbrev pub AreBegunBy : {A W : Type 0} → ℕ → List (NetworkDeed A W) → Type 0
+AreBegunBy now [] = ⊤
+AreBegunBy now (x ∷ deeds) = IsBegunBy now x × AreBegunBy now deeds
+
+-- The network did some things more for it by now, all of them for this place, and no connection was begun but by now:
+-- whatever was done since some time of which the first property says how it stood, what came of it is by that and
+-- these.
 pub record HasDialled {A S W N : Type 0} (does : N → N → List (NetworkDeed A W) → Type 0) (at now : ℕ)
     (stood : ℕ → List (NetworkDeed A W) → Type 0) (bounds : Bounds) (addresses : List A) (came : Dialled A S W)
     (old new : N) : Type 0 where
   pub deeds : List (NetworkDeed A W)
   pub added : HasAdded does old new deeds
   pub own : AreDeedsOf at deeds
+  pub begun : AreBegunBy now deeds
   pub kept : KeepsTries bounds addresses came
   pub dialled : (from : ℕ) (before : List (NetworkDeed A W)) → stood from before
       → IsDialled at from now bounds addresses came (before ++ deeds)
@@ -197,7 +208,7 @@ IsTried at bounds now address (tried.Missed why) deeds = IsMissed at bounds now 
 abbrev pub HasTriedOne : {A S W N : Type 0} → (N → N → List (NetworkDeed A W) → Type 0) → ℕ → Bounds → ℕ → N → N → A
     → Tried S W → Type 0
 HasTriedOne {A} {S} {W} did at bounds now old new address came = (deeds : List (NetworkDeed A W))
-    × HasAdded did old new deeds × AreDeedsOf at deeds × IsTried at bounds now address came deeds
+    × HasAdded did old new deeds × AreDeedsOf at deeds × AreBegunBy now deeds × IsTried at bounds now address came deeds
 
 abbrev pub IfTried : {S W : Type 0} → Tried S W → (S → Type 0) → Type 0
 IfTried (tried.Made stream) P = P stream

@@ -7,7 +7,7 @@ use Rattle.ws_loops.specs.Deeds.{Deed}
 use Rattle.ws_loops.specs.Looping.{LoopValue}
 use Rattle.ws_loops.specs.Loops.{HasGoneOn, IsServedInTime}
 use Rattle.ws_loops.specs.Paces.{begun_pace, has_ended_by}
-use Rattle.ws_loops.specs.Places.{IsFirstToEnd, Kind, place_kind}
+use Rattle.ws_loops.specs.Places.{IsFirstToEnd, Kind, is_stirred, place_kind}
 use Rattle.ws_loops.specs.Places.Kind.{UnderWay}
 use Rattle.ws_loops.specs.Sinks.{AreLinesOfPlaces, HasTakenLines, lines_at}
 use Rattle.ws_loops.specs.Slots.{IsAble}
@@ -98,11 +98,15 @@ abbrev pub IsStandingOver : {M S A W : Type 0} → (M → Wants) → List (Stand
 IsStandingOver {M} {S} {A} {W} wants standings at = (x : Standing M S A W) × (slice_get standings at ≡ Some x)
     × IsOverThere wants x
 
+-- nothing has ended in any
+abbrev pub NoneIsOverThere : {M S A W : Type 0} → (M → Wants) → List (Standing M S A W) → Type 0
+NoneIsOverThere wants standings = (i : ℕ) → IsStandingOver wants standings i → ⊥
+
 -- What holds by now where this has happened: what went on in this place has ended, and first of all; the time has come
--- until which was waited; nothing stands in any place.
+-- until which was waited, and nothing has ended; nothing stands in any place.
 abbrev pub IsNetworkEnding : {M A S W : Type 0} → (M → Wants) → Option ℕ → ℕ → NetworkValue M A S W → Ending → Type 0
 IsNetworkEnding wants until now l (ending.Ended at) = IsStandingOver wants l.standings at × IsFirstToEnd l.tickets at
-IsNetworkEnding wants until now l ending.TooLate = has_ended_by until now ≡ true
+IsNetworkEnding wants until now l ending.TooLate = (has_ended_by until now ≡ true) × NoneIsOverThere wants l.standings
 IsNetworkEnding wants until now l ending.NoSlot = AreFree l.standings
 
 -- It was served by now: a slot was, and a connection that is under way isn't to be given up yet.
@@ -293,7 +297,7 @@ handed_out (outbound.Missed why) = taken.Missed why
 -- ---- what is kept
 
 -- a connection that is under way is waited for until it is given up, and has a machine that is able to go on, a stream
--- that has done nothing, and an address
+-- that has done nothing, and an address; one that was missed was stirred
 abbrev pub IsOutboundSound : {M A S W : Type 0} → (M → M → List Told → Type 0) → (M → Wants)
     → (S → S → List Deed → Type 0) → Place M S → Outbound M A S W → Type 0
 IsOutboundSound agrees wants did place outbound.Idle = (until : Option ℕ) → place_kind place ≡ UnderWay until → ⊥
@@ -301,7 +305,8 @@ IsOutboundSound {M} {A} agrees wants did place (outbound.Trying machine dial) =
     (place_kind place ≡ UnderWay (gives_up_at dial.tries.bounds dial.since)) × IsAble agrees wants machine
     × did dial.stream dial.stream []
     × ((address : A) × (slice_get dial.tries.addresses.items dial.tries.missed ≡ Some address))
-IsOutboundSound agrees wants did place (outbound.Missed why) = place_kind place ≡ UnderWay None
+IsOutboundSound agrees wants did place (outbound.Missed why) = (place_kind place ≡ UnderWay None)
+    × (is_stirred place ≡ true)
 
 -- What goes on beside each place fits what stands in it.
 pub record IsNetworkSound {M A S W : Type 0} (agrees : M → M → List Told → Type 0) (wants : M → Wants)

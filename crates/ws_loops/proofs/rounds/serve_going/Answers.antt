@@ -143,7 +143,8 @@ returns-clause-kinds g c =
     let x_is : slice_get old.places.items at ≡ Some x =
     read_place old.places.items at x x lt c.index_mut.ensures.value refl in
     subst (λ l. StayOfKind old.places.items l) (sym c.note.ensures.noted.places)
-    (kinds_set old.places.items at x c.serve_place.new.place x_is c.in_ok-outlook.ensures.kinds)
+    (kinds_set wants old.places.items at x c.serve_place.new.place x_is
+    (not_ended agrees wants old at x c.requires.standing x_is c.requires.goes) c.in_ok-outlook.ensures.kinds)
 
 pub returns-in_err-outlook-clause-standing : goal.returns-in_err-outlook-clause-standing
 returns-in_err-outlook-clause-standing g c = standing_refused g.M.Machine.agrees g.M.Machine.wants c.args.seats.now _
@@ -176,4 +177,5 @@ returns-in_err-outlook-clause-kinds g c =
     let x = c.index_mut.result.now in
     let x_is : slice_get old.places.items at ≡ Some x =
     read_place old.places.items at x x lt c.index_mut.ensures.value refl in
-    kinds_set old.places.items at x c.serve_place.new.place x_is c.in_err-outlook.ensures.kinds
+    kinds_set wants old.places.items at x c.serve_place.new.place x_is
+    (not_ended agrees wants old at x c.requires.standing x_is c.requires.goes) c.in_err-outlook.ensures.kinds

@@ -195,7 +195,7 @@ returns-in-TooLate g c =
     record {
       run = come;
       ending = by_other agrees wants did c.run.new.self beside c.args.until (time c.run.new.poller)
-          c.in_ok-ending.ending c.in-TooLate.is c.in_ok-ending.ensures.ending;
+          c.in_ok-ending.ending whole c.in-TooLate.is c.in_ok-ending.ensures.ending;
       served = served_there agrees wants did c.run.new.self beside c.args.until (time c.run.new.poller)
           before.all.tickets c.in_ok-ending.ending c.in-TooLate.is whole c.in_ok-ending.ensures.ending
           c.in_ok-ending.ensures.served;
