@@ -1,0 +1,51 @@
+-- All that is played goes on until something has happened.
+use Rattle.std.proofs.Common.{◌∙◌, Some, refl, rules, subst}
+use Rattle.ws_clients.specs.Clients.{PlaysOn, held_streams}
+use Rattle.ws_clients.proofs.ClientLemmas.{goes_none, goes_on, goes_still, goes_then, newly_told, stay_same}
+use Rattle.ws_clients.proofs.ClientLemmas.{stay_then}
+use Rattle.ws_clients.proofs.clients.next_inside.Goals as goal
+
+pub loop-left-init : goal.loop-left-init
+loop-left-init g c = record {
+  room = c.requires.room;
+  whole = c.requires.whole;
+  known = refl;
+  held = stay_same (held_streams c.args.inside.now.held.items);
+  limits = refl;
+  plays = goes_still g.M.Machine.agrees g.L.Client.NonBlocking.did g.K.LineSink.heard c.args.inside.now.all.places
+      c.args.sink.now;
+}
+
+pub loop-left-preserved : goal.loop-left-preserved
+loop-left-preserved g c = record {
+  room = search rules;
+  whole = c.wait_inside.ensures.whole;
+  known = c.in_ok-came.ensures.known ∙ c.loop-left.invariant.known;
+  held = stay_then (held_streams c.args.inside.now.held.items) (held_streams c.loop-left.inside.held.items)
+      (held_streams c.wait_inside.new.inside.held.items) c.loop-left.invariant.held c.in_ok-came.ensures.held;
+  limits = c.in_ok-came.ensures.limits ∙ c.loop-left.invariant.limits;
+  plays = goes_on g.M.Machine.agrees g.L.Client.NonBlocking.did g.K.LineSink.heard c.args.inside.now.all.places
+      c.loop-left.inside.all.places c.wait_inside.new.inside.all.places c.args.sink.now c.loop-left.sink
+      c.wait_inside.new.sink c.loop-left.invariant.plays
+      (goes_none g.M.Machine.agrees g.L.Client.NonBlocking.did g.K.LineSink.heard g.M.Machine.gives
+      c.loop-left.inside.all.places c.wait_inside.new.inside.all.places c.loop-left.sink c.wait_inside.new.sink
+      c.in_ok-came.came c.in_default.is c.in_ok-came.ensures.plays);
+}
+
+pub returns-in-Some-clause-held : goal.returns-in-Some-clause-held
+returns-in-Some-clause-held g c = stay_then (held_streams c.args.inside.now.held.items)
+    (held_streams c.loop-left.inside.held.items) (held_streams c.wait_inside.new.inside.held.items)
+    c.loop-left.invariant.held c.in_ok-came.ensures.held
+
+pub returns-in-Some-clause-plays : goal.returns-in-Some-clause-plays
+returns-in-Some-clause-plays g c = goes_then g.M.Machine.agrees g.L.Client.NonBlocking.did g.K.LineSink.heard
+    g.M.Machine.gives c.args.inside.now.all.places c.loop-left.inside.all.places c.wait_inside.new.inside.all.places
+    c.args.sink.now c.loop-left.sink c.wait_inside.new.sink (Some c.in-Some.event) c.loop-left.invariant.plays
+    (subst (λ e. PlaysOn g.K.LineSink.heard g.M.Machine.agrees g.L.Client.NonBlocking.did g.M.Machine.gives
+    c.loop-left.inside.all.places c.wait_inside.new.inside.all.places c.loop-left.sink c.wait_inside.new.sink e)
+    c.in-Some.is c.in_ok-came.ensures.plays)
+
+pub returns-in-Some-clause-fresh : goal.returns-in-Some-clause-fresh
+returns-in-Some-clause-fresh g c = newly_told (held_streams c.args.inside.now.held.items)
+    (held_streams c.loop-left.inside.held.items) c.in_ok-came.came c.in-Some.event c.in-Some.is
+    c.loop-left.invariant.held c.in_ok-came.ensures.fresh

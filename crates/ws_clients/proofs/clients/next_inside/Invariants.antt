@@ -1,0 +1,20 @@
+-- So far all that is played has gone on.
+use Rattle.std.proofs.Common.{◌≡◌, ◌<◌, Bor, List, length, map, ℕ}
+use Rattle.ws_clients.specs.Clients.{AreClientsSound, HasGoneOnTo, StayHeld, held_streams}
+use Rattle.ws_clients.proofs.clients.next_inside.Given as goal
+
+abbrev pub invariant-loop-left : goal.invariant-loop-left
+invariant-loop-left g l = record {
+  room : 0 < length l.room;
+  whole : AreClientsSound g.M.Machine.agrees g.L.Client.NonBlocking.did
+      (map {A = Bor (List ℕ)} {B = List ℕ} (λ name. name.now) l.inside.known.now) l.inside.all l.inside.held.items
+      l.inside.is_broken;
+  known : l.inside.known ≡ l.fn.inside.known;
+  held : StayHeld (held_streams l.fn.inside.held.items) (held_streams l.inside.held.items);
+  limits : l.inside.limits ≡ l.fn.inside.limits;
+  plays : HasGoneOnTo g.K.LineSink.heard g.M.Machine.agrees g.L.Client.NonBlocking.did l.fn.inside.all.places
+      l.inside.all.places l.fn.sink l.sink;
+}
+
+abbrev pub decreases-loop-left : goal.decreases-loop-left
+decreases-loop-left g l = l.left

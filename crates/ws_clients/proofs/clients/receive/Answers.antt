@@ -1,0 +1,26 @@
+-- Its request is to be read: nothing is held beside its place, and its stream has done nothing.
+use Rattle.std.proofs.Common.{[]}
+use Rattle.ws_loops.specs.declared.places.Place.TheVariants.{Empty}
+use Rattle.ws_clients.specs.declared.talking.Talk.TheVariants.{Admits}
+use Rattle.ws_clients.proofs.ClientLemmas.{keeps_set, none_waits, sound_open, talk_begins}
+use Rattle.ws_clients.proofs.clients.receive.Goals as goal
+
+pub put-requires-clause-able : goal.put-requires-clause-able
+put-requires-clause-able g c = record {
+  running = (Admits c.new.result, [], c.new.ensures.told);
+  goes_on = c.new.ensures.goes_on;
+}
+
+pub returns-clause-others : goal.returns-clause-others
+returns-clause-others g c = keeps_set g.M.Machine.agrees g.S.NonBlocking.did c.args.inside.now.all.places
+    c.put.new.self.places c.args.at Empty _ c.requires.empty tt c.put.ensures.put
+
+pub returns-clause-whole : goal.returns-clause-whole
+returns-clause-whole g c = sound_open g.M.Machine.agrees g.S.NonBlocking.did _ c.args.inside.now.all c.put.new.self
+    c.args.inside.now.held.items c.args.inside.now.is_broken c.args.at
+    (record { machine = Admits c.new.result; stream = c.args.stream; pace = c.begun.result }) c.put.ensures.put
+    (talk_begins g.M.Machine.agrees g.S.NonBlocking.did _
+    (record { machine = Admits c.new.result; stream = c.args.stream; pace = c.begun.result })
+    (c.new.ensures.known, c.requires.fresh) c.new.ensures.told)
+    (none_waits g.M.Machine.agrees g.S.NonBlocking.did _ c.args.inside.now.all c.args.inside.now.held.items
+    c.args.inside.now.is_broken c.args.at Empty c.requires.empty tt c.requires.whole) c.requires.whole

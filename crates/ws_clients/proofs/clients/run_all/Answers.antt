@@ -1,0 +1,26 @@
+-- All that is played goes on; where the loop is stopped nothing is known of it.
+use Rattle.ws_clients.specs.Talks.{wants_talk}
+use Rattle.ws_clients.proofs.ClientLemmas.{come_so, goes_run, sound_run, sound_stopped}
+use Rattle.ws_clients.proofs.clients.run_all.Goals as goal
+
+pub returns-in-Ok-clause-arrived : goal.returns-in-Ok-clause-arrived
+returns-in-Ok-clause-arrived g c = come_so (wants_talk g.M.Machine.wants) g.L.Client.NonBlocking.did g.L.Listener.did
+    c.args.until (g.P.Poller.time c.run_listening.new.poller) c.args.listener.now c.run_listening.new.listener
+    c.run_listening.new.self c.in-Ok.arrival c.in-Ok.ensures.arrived c.in-Ok.ensures.asked
+
+pub returns-in-Ok-clause-plays : goal.returns-in-Ok-clause-plays
+returns-in-Ok-clause-plays g c = goes_run g.M.Machine.agrees g.L.Client.NonBlocking.did g.K.LineSink.heard
+    (wants_talk g.M.Machine.wants) (g.P.Poller.time c.args.poller.now) (g.P.Poller.time c.run_listening.new.poller)
+    c.args.inside.now.all.places c.run_listening.new.self.places c.args.sink.now c.run_listening.new.sink
+    c.in-Ok.ensures.run
+
+pub returns-in-Ok-clause-whole : goal.returns-in-Ok-clause-whole
+returns-in-Ok-clause-whole g c = sound_run g.M.Machine.agrees g.L.Client.NonBlocking.did (wants_talk g.M.Machine.wants)
+    g.K.LineSink.heard (g.P.Poller.time c.args.poller.now) (g.P.Poller.time c.run_listening.new.poller) _
+    c.args.inside.now.all c.run_listening.new.self c.args.inside.now.held.items c.args.inside.now.is_broken
+    c.args.sink.now c.run_listening.new.sink c.in-Ok.ensures.kinds c.in-Ok.ensures.run c.requires.whole
+
+pub returns-in-Err-clause-whole : goal.returns-in-Err-clause-whole
+returns-in-Err-clause-whole g c = sound_stopped g.M.Machine.agrees g.L.Client.NonBlocking.did _ c.args.inside.now.all
+    c.run_listening.new.self c.args.inside.now.held.items c.args.inside.now.is_broken c.in-Err.ensures.kinds
+    c.requires.whole

@@ -1,0 +1,272 @@
+-- The clients of a listener, in one loop: what stands in each place, what is played there, and what has happened.
+use Rattle.std.specs.Prelude.{◌≡◌, ◌⊎◌, ℕ, ⊤, Bool, true, false, List, [], ◌∷◌, ◌++◌, Option, None, Some, length}
+use Rattle.std.specs.Prelude.{map, slice_get, slice_set}
+use Rattle.std.specs.List.{concat, flat_map}
+use Rattle.ws_machines.specs.Told.{Told}
+use Rattle.ws_machines.specs.Told.Told.{DirectionEnded, Reported}
+use Rattle.ws_machines.specs.Machines.{Wants}
+use Rattle.ws_loops.specs.Deeds.{Deed, Happened, HasDone, all_done, all_shown, all_told}
+use Rattle.ws_loops.specs.Deeds.Deed.{Did}
+use Rattle.ws_loops.specs.Listeners.{AcceptDeed, HasHeardLast}
+use Rattle.ws_loops.specs.Listeners.AcceptDeed.{CouldNotGive, HadNoClient}
+use Rattle.ws_loops.specs.Looping.{LoopValue}
+use Rattle.ws_loops.specs.Paces.{has_ended_by}
+use Rattle.ws_loops.specs.Places.{AreOccupied, IsOverAt}
+use Rattle.ws_loops.specs.Sinks.{HasTakenLines, lines_at}
+use Rattle.ws_loops.specs.declared.listening.Arrival.{Arrival}
+use Rattle.ws_loops.specs.declared.listening.Arrival.TheVariants as arrival
+use Rattle.ws_loops.specs.declared.looping.Ending.{Ending}
+use Rattle.ws_loops.specs.declared.looping.Ending.TheVariants as ending
+use Rattle.ws_loops.specs.declared.places.Place.{Place}
+use Rattle.ws_loops.specs.declared.places.Place.TheVariants.{Broken, Empty, Open, Pending}
+use Rattle.ws_loops.specs.declared.slot.Slot.{Slot}
+use Rattle.ws_loops.specs.declared.watch.Watch.{Watch}
+use Rattle.ws_networks.specs.declared.bounds.Limits.{Limits}
+use Rattle.ws_upgrade.specs.Protocols.{AreOffers}
+use Rattle.ws_clients.specs.Talks.{IsAdmission, IsTalkOf, agrees_talk}
+use Rattle.ws_clients.specs.declared.clients.Event.{Event}
+use Rattle.ws_clients.specs.declared.clients.Event.TheVariants.{Deaf, Decided, Gone, Played, TooLate}
+use Rattle.ws_clients.specs.declared.clients.Held.{Held}
+use Rattle.ws_clients.specs.declared.talking.Talk.{Talk}
+use Rattle.ws_clients.specs.declared.talking.Talk.TheVariants.{Admits, Leaves, Plays}
+
+-- The subprotocols that are known, and the limits of each connection; what stands in each place, and the stream that is
+-- held beside it; and whether it was told that no client can be taken and nothing has ended since.
+pub record ClientsValue (M S : Type 0) : Type 0 where
+  pub known : List (List ℕ)
+  pub limits : Limits
+  pub places : List (Place (Talk M) S)
+  pub held : List (Option S)
+  pub deaf : Bool
+
+-- the streams that are held
+abbrev pub held_stream : {S : Type 0} → Option (Held S) → Option S
+held_stream None = None
+held_stream (Some h) = Some h.stream
+
+abbrev pub held_streams : {S : Type 0} → List (Option (Held S)) → List (Option S)
+held_streams held = map held_stream held
+
+abbrev pub clients_value : {M S : Type 0} → List (List ℕ) → Limits → LoopValue (Talk M) S → List (Option (Held S))
+    → ClientsValue M S
+clients_value known limits l held = record {
+  known = known;
+  limits = limits;
+  places = l.places;
+  held = held_streams held;
+  deaf = l.deaf;
+}
+
+-- this place is kept for a client that waits
+abbrev pub IsAwaitedAt : {M S : Type 0} → List (Place M S) → ℕ → Type 0
+IsAwaitedAt {M} {S} places at = (watch : Watch) × (slice_get places at ≡ Some (Pending watch))
+
+-- this stream is held beside this place
+abbrev pub IsHeldAt : {S : Type 0} → List (Option S) → ℕ → S → Type 0
+IsHeldAt held at stream = slice_get held at ≡ Some (Some stream)
+
+-- each stream that is held stays so
+abbrev pub StayHeld : {S : Type 0} → List (Option S) → List (Option S) → Type 0
+StayHeld {S} old new = (at : ℕ) (stream : S) → IsHeldAt old at stream → IsHeldAt new at stream
+
+-- ---- what is played
+
+-- In the place stands a slot in which just this happened since this machine was put there with this stream: what the
+-- machine was told is what the stream did, in its order, and what the clock says. Or memory ran out for it.
+abbrev pub PlaysThere : {M S : Type 0} → (M → M → List Told → Type 0) → (S → S → List Deed → Type 0) → M → S
+    → List Happened → Place (Talk M) S → Type 0
+PlaysThere agrees did start stream happened (Open slot) =
+    agrees_talk agrees (Plays start) slot.machine (all_told happened)
+    × HasDone did stream slot.stream (all_done happened)
+PlaysThere agrees did start stream happened Broken = ⊤
+PlaysThere agrees did start stream happened Empty = ⊥
+PlaysThere agrees did start stream happened (Pending watch) = ⊥
+
+-- so it is in this place
+abbrev pub IsPlaying : {M S : Type 0} → (M → M → List Told → Type 0) → (S → S → List Deed → Type 0) → M → S
+    → List Happened → List (Place (Talk M) S) → ℕ → Type 0
+IsPlaying {M} {S} agrees did start stream happened places at = (place : Place (Talk M) S)
+    × (slice_get places at ≡ Some place) × PlaysThere agrees did start stream happened place
+
+-- the slot in this place has this time limit
+abbrev pub IsLimitAt : {M S : Type 0} → Option ℕ → List (Place M S) → ℕ → Type 0
+IsLimitAt {M} {S} limit places at = (slot : Slot M S) × (slice_get places at ≡ Some (Open slot))
+    × (slot.pace.limit ≡ limit)
+
+-- its client is left
+abbrev pub IsLeaver : {M : Type 0} → Talk M → Type 0
+IsLeaver (Admits machine) = ⊥
+IsLeaver (Plays machine) = ⊥
+IsLeaver (Leaves machine) = ⊤
+
+-- the client in this place is left, to which this stream belonged: it was ended from this side
+abbrev pub IsLeftAt : {M S : Type 0} → (S → S → List Deed → Type 0) → S → List (Place (Talk M) S) → ℕ → Type 0
+IsLeftAt {M} {S} did stream places at = (slot : Slot (Talk M) S) × (slice_get places at ≡ Some (Open slot))
+    × IsLeaver slot.machine × HasDone did stream slot.stream (Did DirectionEnded ∷ [])
+
+-- all that is played anywhere still is, and nothing more has happened there
+abbrev pub KeepsPlays : {M S : Type 0} → (M → M → List Told → Type 0) → (S → S → List Deed → Type 0)
+    → List (Place (Talk M) S) → List (Place (Talk M) S) → Type 0
+KeepsPlays {M} {S} agrees did old new = (at : ℕ) (start : M) (stream : S) (happened : List Happened)
+    → IsPlaying agrees did start stream happened old at → IsPlaying agrees did start stream happened new at
+
+-- This tells what came of what was played in this place, where just this happened there: it follows from what its
+-- machine was told, and that is what its stream did; or that memory ran out for it.
+abbrev pub IsPlayEnd : {M S E W : Type 0} → (S → S → List Deed → Type 0) → (M → List Told → E → Type 0) → M → S → ℕ
+    → List Happened → Event E W → Type 0
+IsPlayEnd {M} {S} did gives start stream at happened (Played other end) = (other ≡ at)
+    × gives start (all_told happened) end × ((last : S) × HasDone did stream last (all_done happened))
+IsPlayEnd did gives start stream at happened (Gone other) = other ≡ at
+IsPlayEnd did gives start stream at happened event = ⊥
+
+-- the lines of which it was told that they were taken
+abbrev pub line_told : Told → List ℕ
+line_told (Reported lines) = lines
+line_told told = []
+
+abbrev pub lines_told : List Told → List ℕ
+lines_told told = flat_map line_told told
+
+-- these lines were taken, one after the other, and the machine was told so of no others
+abbrev pub HasLines : List Happened → List (List ℕ) → Type 0
+HasLines happened lines = (all_shown happened ≡ lines) × (lines_told (all_told happened) ≡ concat lines)
+
+-- All that is played goes on: in each place more happens, and the lines that the sink took of it are those; or it has
+-- ended so, and this event tells it.
+pub record PlaysOn {M S K E W : Type 0} (heard : K → K → List (ℕ × List ℕ) → Type 0)
+    (agrees : M → M → List Told → Type 0) (did : S → S → List Deed → Type 0) (gives : M → List Told → E → Type 0)
+    (old new : List (Place (Talk M) S)) (old_sink new_sink : K) (told : Option (Event E W)) : Type 0 where
+  pub lines : List (ℕ × List ℕ)
+  pub put : HasTakenLines heard old_sink new_sink lines
+  pub each : (at : ℕ) (start : M) (stream : S) (happened : List Happened)
+      → IsPlaying agrees did start stream happened old at → (more : List Happened)
+      × HasLines more (lines_at at lines)
+      × (IsPlaying agrees did start stream (happened ++ more) new at
+      ⊎ ((event : Event E W) × (told ≡ Some event) × IsPlayEnd did gives start stream at (happened ++ more) event))
+
+-- so far, where nothing is told of them
+abbrev pub HasGoneOnTo : {M S K : Type 0} → (K → K → List (ℕ × List ℕ) → Type 0) → (M → M → List Told → Type 0)
+    → (S → S → List Deed → Type 0) → List (Place (Talk M) S) → List (Place (Talk M) S) → K → K → Type 0
+HasGoneOnTo {M} {S} {K} heard agrees did old new old_sink new_sink = (lines : List (ℕ × List ℕ))
+    × HasTakenLines heard old_sink new_sink lines
+    × ((at : ℕ) (start : M) (stream : S) (happened : List Happened) → IsPlaying agrees did start stream happened old at
+    → (more : List Happened) × HasLines more (lines_at at lines)
+    × IsPlaying agrees did start stream (happened ++ more) new at)
+
+-- so at once, where something has ended, or nothing that was played
+abbrev pub EndsAtOnce : {M S E W : Type 0} → (M → M → List Told → Type 0) → (S → S → List Deed → Type 0)
+    → (M → List Told → E → Type 0) → List (Place (Talk M) S) → List (Place (Talk M) S) → Option (Event E W) → Type 0
+EndsAtOnce {M} {S} {E} {W} agrees did gives old new told = (at : ℕ) (start : M) (stream : S) (happened : List Happened)
+    → IsPlaying agrees did start stream happened old at → IsPlaying agrees did start stream happened new at
+    ⊎ ((event : Event E W) × (told ≡ Some event) × IsPlayEnd did gives start stream at happened event)
+
+-- what came of the slot that stood in this place: where this was played there, and just this happened, it is told
+abbrev pub EndsSlot : {M S E W : Type 0} → (M → M → List Told → Type 0) → (S → S → List Deed → Type 0)
+    → (M → List Told → E → Type 0) → ℕ → Slot (Talk M) S → Option (Event E W) → Type 0
+EndsSlot {M} {S} {E} {W} agrees did gives at slot told = (start : M) (stream : S) (happened : List Happened)
+    → PlaysThere agrees did start stream happened (Open slot)
+    → (event : Event E W) × (told ≡ Some event) × IsPlayEnd did gives start stream at happened event
+
+-- ---- what has happened
+
+-- the last that this listener did was that it could give no client, for this reason
+abbrev pub IsDeaf : {L W : Type 0} → (L → L → List (AcceptDeed W) → Type 0) → L → W → Type 0
+IsDeaf {L} did now why = (before : L) × HasHeardLast did before now (CouldNotGive why ∷ [])
+
+-- it was asked last in vain, or not asked: no place is empty, or it was told that no client can be taken
+abbrev pub WasInVain : {X S L W : Type 0} → (L → L → List (AcceptDeed W) → Type 0) → L → List (Place X S) → Bool
+    → Type 0
+WasInVain {X} {S} {L} did now places deaf = ((before : L) × HasHeardLast did before now (HadNoClient ∷ []))
+    ⊎ (AreOccupied places (length places) ⊎ (deaf ≡ true))
+
+abbrev pub IsAskedInVain : {M S L W : Type 0} → (L → L → List (AcceptDeed W) → Type 0) → L → ClientsValue M S → Type 0
+IsAskedInVain did now x = WasInVain did now x.places x.deaf
+
+-- What holds by now where this has happened: a request was decided so, where these subprotocols are known; the time has
+-- come; the listener has said that it can give no client.
+abbrev pub HasBecome : {M S L E W : Type 0} → (S → S → List Deed → Type 0) → (L → L → List (AcceptDeed W) → Type 0) → ℕ
+    → Option ℕ → L → ClientsValue M S → Event E W → Type 0
+HasBecome did heard now until listener x (Decided at admission) = IsAdmission did x.known admission
+HasBecome did heard now until listener x (Played at end) = ⊤
+HasBecome did heard now until listener x (Gone at) = ⊤
+HasBecome did heard now until listener x TooLate = (has_ended_by until now ≡ true) × IsAskedInVain heard listener x
+HasBecome did heard now until listener x (Deaf why) = IsDeaf heard listener why
+
+-- the client of which it tells waits in its place, or its place is empty
+abbrev pub StandsWhere : {M S E W : Type 0} → List (Place (Talk M) S) → Event E W → Type 0
+StandsWhere places (Decided at admission) = IsAwaitedAt places at
+StandsWhere places (Played at end) = IsAwaitedAt places at
+StandsWhere places (Gone at) = slice_get places at ≡ Some Empty
+StandsWhere places TooLate = ⊤
+StandsWhere places (Deaf why) = ⊤
+
+-- the stream of the client of which it tells is held beside its place: that from which its request was read, where that
+-- was decided
+abbrev pub HoldsBehind : {S E W : Type 0} → (S → S → List Deed → Type 0) → List (List ℕ) → List (Option S) → Event E W
+    → Type 0
+HoldsBehind did known held (Decided at admission) = (is : IsAdmission did known admission) × IsHeldAt held at is.last
+HoldsBehind {S} did known held (Played at end) = (stream : S) × IsHeldAt held at stream
+HoldsBehind did known held (Gone at) = ⊤
+HoldsBehind did known held TooLate = ⊤
+HoldsBehind did known held (Deaf why) = ⊤
+
+-- nothing was held before beside the place of which it tells
+abbrev pub IsNewlyHeld : {S E W : Type 0} → List (Option S) → Event E W → Type 0
+IsNewlyHeld {S} held (Decided at admission) = (stream : S) → IsHeldAt held at stream → ⊥
+IsNewlyHeld {S} held (Played at end) = (stream : S) → IsHeldAt held at stream → ⊥
+IsNewlyHeld {S} held (Gone at) = (stream : S) → IsHeldAt held at stream → ⊥
+IsNewlyHeld held TooLate = ⊤
+IsNewlyHeld held (Deaf why) = ⊤
+
+-- it is told of this place
+abbrev pub IsOfPlace : {S E W : Type 0} → (S → S → List Deed → Type 0) → ℕ → List (List ℕ) → Event E W → Type 0
+IsOfPlace did at known (Decided other admission) = (other ≡ at) × IsAdmission did known admission
+IsOfPlace did at known (Played other end) = other ≡ at
+IsOfPlace did at known (Gone other) = other ≡ at
+IsOfPlace did at known TooLate = ⊥
+IsOfPlace did at known (Deaf why) = ⊥
+
+-- What holds by now where this has arrived: what went on in this place has ended; the place is empty, and the stream
+-- has done nothing; the listener has said that it can give no client; the time has come, and it was asked in vain.
+abbrev pub HasCome : {M S L W : Type 0} → (Talk M → Wants) → (S → S → List Deed → Type 0)
+    → (L → L → List (AcceptDeed W) → Type 0) → ℕ → Option ℕ → L → LoopValue (Talk M) S → Arrival S W → Type 0
+HasCome wants did heard now until listener l (arrival.Ended at) = IsOverAt wants l.places at
+HasCome wants did heard now until listener l (arrival.Client at stream) = (slice_get l.places at ≡ Some Empty)
+    × did stream stream []
+HasCome wants did heard now until listener l (arrival.Lost why) = ⊤
+HasCome wants did heard now until listener l (arrival.NotAccepted why) = IsDeaf heard listener why
+HasCome wants did heard now until listener l arrival.TooLate = (has_ended_by until now ≡ true)
+    × WasInVain heard listener l.places l.deaf
+
+-- what went on in the place that is told has ended
+abbrev pub IsOverAs : {M S : Type 0} → (Talk M → Wants) → List (Place (Talk M) S) → Ending → Type 0
+IsOverAs wants places (ending.Ended at) = IsOverAt wants places at
+IsOverAs wants places ending.TooLate = ⊤
+IsOverAs wants places ending.NoSlot = ⊤
+
+-- ---- what is kept
+
+-- Each place beside which a stream is held is kept for its client; and in each slot a request is read by these
+-- subprotocols over a stream that had done nothing, if the loop was not stopped by a fault.
+pub record AreClientsSound {M S : Type 0} (agrees : M → M → List Told → Type 0) (did : S → S → List Deed → Type 0)
+    (known : List (List ℕ)) (l : LoopValue (Talk M) S) (held : List (Option (Held S))) (broken : Bool) : Type 0 where
+  pub offers : AreOffers known
+  pub len : length held ≡ length l.places
+  pub waits : (i : ℕ) (h : Held S) → slice_get held i ≡ Some (Some h) → IsAwaitedAt l.places i
+  pub talks : broken ≡ false → (i : ℕ) (slot : Slot (Talk M) S) → slice_get l.places i ≡ Some (Open slot)
+      → IsTalkOf agrees did known slot
+
+-- so many places beside which nothing is held
+pub record AreNoneHeld {S : Type 0} (len : ℕ) (held : List (Option (Held S))) : Type 0 where
+  pub places : length held ≡ len
+  pub none : (i : ℕ) (h : Option (Held S)) → slice_get held i ≡ Some h → h ≡ None
+
+-- what was held beside this place, if there is one and anything was, is taken out
+abbrev pub IsTakenOut : {S : Type 0} → ℕ → List (Option (Held S)) → List (Option (Held S)) → Option (Held S) → Type 0
+IsTakenOut at old new None = new ≡ old
+IsTakenOut at old new (Some h) = (slice_get old at ≡ Some (Some h)) × (new ≡ slice_set old at None)
+
+-- where nothing was taken out nothing was held
+abbrev pub WasNoneHeld : {S : Type 0} → ℕ → List (Option (Held S)) → Option (Held S) → Type 0
+WasNoneHeld {S} at old None = (h : Held S) → slice_get old at ≡ Some (Some h) → ⊥
+WasNoneHeld at old (Some h) = ⊤

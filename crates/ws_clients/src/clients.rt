@@ -1,0 +1,689 @@
+//! The clients of a listener, in one loop. Of one whose request was decided, or to which all was played, the stream is
+//! held beside its place, until it is said what is next for it.
+
+ghost use Rattle.std.specs.Prelude.{◌≡◌, ◌<◌, [], true, false, None, Some, IfOk, IfSome, OnOk, length, map, slice_get};
+ghost use Rattle.std.specs.Prelude.{slice_set};
+ghost use Rattle.ws_machines.specs.Machines.{HasNext};
+ghost use Rattle.ws_loops.specs.Places.{IsOverAt};
+ghost use Rattle.ws_loops.specs.declared.places.Place.TheVariants.{Empty};
+ghost use Rattle.ws_upgrade.specs.Protocols.{AreOffers};
+ghost use Rattle.ws_clients.specs.Talks.{IsTalkOf, wants_talk};
+ghost use Rattle.ws_clients.specs.Clients.{AreClientsSound, AreNoneHeld, EndsAtOnce, EndsSlot, HasBecome, HasCome};
+ghost use Rattle.ws_clients.specs.Clients.{HasGoneOnTo, HoldsBehind, IsAwaitedAt, IsHeldAt, IsLeftAt, IsLimitAt};
+ghost use Rattle.ws_clients.specs.Clients.{IsNewlyHeld, IsOfPlace, IsOverAs, IsPlaying, IsTakenOut, KeepsPlays};
+ghost use Rattle.ws_clients.specs.Clients.{PlaysOn, StandsWhere, StayHeld, WasNoneHeld, clients_value, held_streams};
+ghost use Rattle.ws_clients.specs.declared.clients.Event.TheVariants.{Deaf};
+
+use crate::leaving::Leaver;
+use crate::talking::Talk;
+use std::alloc::Global;
+use std::marker::Model;
+use std::mem;
+use ws_base::NoMemory;
+use ws_handshake::{Admission, AdmitMachine};
+use ws_loops::{
+    Arrival, Ending, LineSink, Listener, Loop, NonBlocking, Pace, Place, Poller, Slot, WaitFailed,
+    Watch,
+};
+use ws_machines::Machine;
+use ws_networks::Limits;
+
+/// A client that is left is read for so many milliseconds.
+const LEAVING: u64 = 1800;
+
+/// And all of them are waited for so many, once no client is taken any more.
+const ENDING: u64 = 2000;
+
+/// A client that waits is not waited for.
+const AWAITED: Watch = Watch {
+    until: None,
+    stirred: false,
+};
+
+/// What has happened among clients. Each stays where it is until it is left.
+#[derive(Drop)]
+pub enum Event<E, W> {
+    /// This came of the request of the client in this place.
+    Decided(usize, Admission),
+    /// What was played to the client in this place has ended, and this came of it.
+    Played(usize, E),
+    /// Memory ran out for the client in this place, which is gone.
+    Gone(usize),
+    /// The time has come until which one was waited for.
+    TooLate,
+    /// Nobody is there, and no client can be taken any more, for this reason.
+    Deaf(W),
+}
+
+/// A stream that waits for what is next for its client.
+#[derive(Drop)]
+pub(crate) struct Held<S> {
+    stream: S,
+    /// By then the connection would have ended.
+    until: Option<u64>,
+    /// Since then it waits.
+    since: u64,
+}
+
+/// All that is kept of clients.
+#[derive(Drop)]
+pub(crate) struct Inside<'a, M: Machine + Drop, S> {
+    pub(crate) alloc: Global,
+    pub(crate) known: &'a [&'a [u8]],
+    pub(crate) limits: Limits,
+    pub(crate) all: Loop<Talk<'a, M>, S>,
+    pub(crate) held: Vec<Option<Held<S>>>,
+    /// So many are there.
+    pub(crate) there: usize,
+    /// To so many something is played, or they are left.
+    pub(crate) busy: usize,
+    /// The loop has stopped by a fault: nothing is known of what goes on in it.
+    pub(crate) is_broken: bool,
+}
+
+/// The clients of a listener, of which so many can be there at a time. Contracts see the subprotocols that are known,
+/// the limits of each connection, what stands in each place of their loop, and the streams that are held beside them.
+#[derive(Drop)]
+pub struct Clients<'a, M: Machine + Drop, S: NonBlocking> {
+    inside: Inside<'a, M, S>,
+}
+
+impl<'a, M: Machine + Drop, S: NonBlocking> Model for Clients<'a, M, S> {
+    ghost use Rattle.std.specs.Prelude.{map};
+    ghost use Rattle.ws_clients.specs.Clients.{AreClientsSound, ClientsValue, clients_value};
+
+    ghost Value = { ClientsValue M S };
+
+    ghost view = { λ x. clients_value (map (λ name. name.now) x.inside.known.now) x.inside.limits x.inside.all
+        x.inside.held.items };
+
+    ghost invariant = { λ x. AreClientsSound M.agrees S.did (map (λ name. name.now) x.inside.known.now) x.inside.all
+        x.inside.held.items x.inside.is_broken };
+}
+
+impl<'a, M: Machine + Drop, S: NonBlocking + Drop> Clients<'a, M, S>
+where
+    M::End: Drop,
+{
+    /// Nobody has come. These subprotocols are known, these are the limits of each connection, and so many clients can
+    /// be there at a time.
+    pub fn new(
+        alloc: Global,
+        known: &'a [&'a [u8]],
+        limits: Limits,
+        len: usize,
+    ) -> Result<Clients<'a, M, S>, NoMemory>
+        requires { AreOffers (map (λ name. name.now) known.now) }
+        ensures known { IfOk result (λ made. made.known ≡ map (λ name. name.now) known.now) }
+        ensures limits { IfOk result (λ made. made.limits ≡ limits) }
+    {
+        let inside = new_inside(alloc, known, limits, len)?;
+        Ok(Clients { inside })
+    }
+
+    /// Serves all clients, and takes those that come, until the request of one is decided, what was played to one has
+    /// ended, or this time has come.
+    pub fn next<L: Listener<Client = S>, P: Poller, K: LineSink>(
+        &mut self,
+        listener: &mut L,
+        poller: &mut P,
+        sink: &mut K,
+        until: Option<u64>,
+        room: &mut [u8],
+    ) -> Result<Event<M::End, L::Miss>, K::Fault>
+        requires room { 0 < length room.old }
+        ensures happened { IfOk result (λ event.
+            HasBecome S.did L.did (P.time poller.new) until listener.new self.new event) }
+        ensures stands { IfOk result (λ event. StandsWhere self.new.places event) }
+        ensures holds { IfOk result (λ event. HoldsBehind S.did self.new.known self.new.held event) }
+        ensures fresh { IfOk result (λ event. IsNewlyHeld self.old.held event) }
+        ensures held { OnOk result (StayHeld self.old.held self.new.held) }
+        ensures plays { IfOk result (λ event. PlaysOn K.heard M.agrees S.did M.gives self.old.places self.new.places
+            sink.old sink.new (Some event)) }
+        ensures known { OnOk result (self.new.known ≡ self.old.known) }
+        ensures limits { OnOk result (self.new.limits ≡ self.old.limits) }
+    {
+        next_inside(&mut self.inside, listener, poller, sink, until, room)
+    }
+
+    /// Plays this to the client in this place, if one waits there. Answers whether one does.
+    pub fn play(&mut self, at: usize, machine: M, now: u64) -> bool
+        requires untold { M.agrees machine machine [] }
+        requires goes_on { HasNext (M.wants machine) }
+        ensures plays { result ≡ true → (stream : S) × IsHeldAt self.old.held at stream
+            × IsPlaying M.agrees S.did machine stream [] self.new.places at }
+        ensures begins { (stream : S) → IsHeldAt self.old.held at stream → result ≡ true }
+        ensures limit { result ≡ true → IsLimitAt self.old.limits.limit self.new.places at }
+        ensures held { self.new.held ≡ slice_set self.old.held at None }
+        ensures others { KeepsPlays M.agrees S.did self.old.places self.new.places }
+        ensures known { self.new.known ≡ self.old.known }
+        ensures limits { self.new.limits ≡ self.old.limits }
+    {
+        play_inside(&mut self.inside, at, machine, now)
+    }
+
+    /// Leaves the client in this place, if one waits there: its stream is ended from this side, and what it still sends
+    /// is read and dropped for a while.
+    pub fn leave(&mut self, at: usize, now: u64)
+        ensures leaves { (stream : S) → IsHeldAt self.old.held at stream →
+            IsLeftAt S.did stream self.new.places at }
+        ensures held { self.new.held ≡ slice_set self.old.held at None }
+        ensures others { KeepsPlays M.agrees S.did self.old.places self.new.places }
+        ensures known { self.new.known ≡ self.old.known }
+        ensures limits { self.new.limits ≡ self.old.limits }
+    {
+        leave_inside(&mut self.inside, at, now);
+    }
+
+    /// No client is taken any more: those that are left are read to the end, and what is played to others may end, for
+    /// a while.
+    pub fn end<P: Poller, K: LineSink>(
+        &mut self,
+        poller: &mut P,
+        sink: &mut K,
+        room: &mut [u8],
+    ) -> Result<(), K::Fault>
+        requires room { 0 < length room.old }
+    {
+        end_inside(&mut self.inside, poller, sink, room)
+    }
+}
+
+/// All that is kept where nobody has come.
+fn new_inside<'a, M: Machine + Drop, S: NonBlocking + Drop>(
+    alloc: Global,
+    known: &'a [&'a [u8]],
+    limits: Limits,
+    len: usize,
+) -> Result<Inside<'a, M, S>, NoMemory>
+    requires { AreOffers (map (λ name. name.now) known.now) }
+    ensures known { IfOk result (λ made. map (λ name. name.now) made.known.now ≡ map (λ name. name.now) known.now) }
+    ensures limits { IfOk result (λ made. made.limits ≡ limits) }
+    ensures whole { IfOk result (λ made. AreClientsSound M.agrees S.did (map (λ name. name.now) made.known.now)
+        made.all made.held.items made.is_broken) }
+{
+    let all = Loop::new(alloc, len)?;
+    let held = none_held(alloc, len)?;
+    Ok(Inside {
+        alloc,
+        known,
+        limits,
+        all,
+        held,
+        there: 0,
+        busy: 0,
+        is_broken: false,
+    })
+}
+
+/// So many places beside which nothing is held.
+fn none_held<S: Drop>(alloc: Global, len: usize) -> Result<Vec<Option<Held<S>>>, NoMemory>
+    ensures { IfOk result (λ made. AreNoneHeld len made.items) }
+{
+    let mut held = Vec::new(alloc);
+    while held.len() < len {
+        held.push(None)?;
+    }
+    Ok(held)
+}
+
+/// Serves all clients, and takes those that come, until something has happened.
+fn next_inside<M: Machine + Drop, L: Listener, P: Poller, K: LineSink>(
+    inside: &mut Inside<'_, M, L::Client>,
+    listener: &mut L,
+    poller: &mut P,
+    sink: &mut K,
+    until: Option<u64>,
+    room: &mut [u8],
+) -> Result<Event<M::End, L::Miss>, K::Fault>
+    requires room { 0 < length room.old }
+    requires whole { AreClientsSound M.agrees L.Client.did (map (λ name. name.now) inside.old.known.now)
+        inside.old.all inside.old.held.items inside.old.is_broken }
+    ensures happened { IfOk result (λ event. HasBecome L.Client.did L.did (P.time poller.new) until listener.new
+        (clients_value (map (λ name. name.now) inside.new.known.now) inside.new.limits inside.new.all
+        inside.new.held.items) event) }
+    ensures stands { IfOk result (λ event. StandsWhere inside.new.all.places event) }
+    ensures holds { IfOk result (λ event. HoldsBehind L.Client.did (map (λ name. name.now) inside.new.known.now)
+        (held_streams inside.new.held.items) event) }
+    ensures fresh { IfOk result (λ event. IsNewlyHeld (held_streams inside.old.held.items) event) }
+    ensures held { OnOk result (StayHeld (held_streams inside.old.held.items) (held_streams inside.new.held.items)) }
+    ensures plays { IfOk result (λ event. PlaysOn K.heard M.agrees L.Client.did M.gives inside.old.all.places
+        inside.new.all.places sink.old sink.new (Some event)) }
+    ensures known { OnOk result (inside.new.known ≡ inside.old.known) }
+    ensures limits { OnOk result (inside.new.limits ≡ inside.old.limits) }
+    ensures whole { AreClientsSound M.agrees L.Client.did (map (λ name. name.now) inside.new.known.now)
+        inside.new.all inside.new.held.items inside.new.is_broken }
+{
+    let mut left = u64::MAX;
+    while left > 0 && !inside.is_broken {
+        left -= 1;
+        let came = wait_inside(inside, listener, poller, sink, until, room)?;
+        if let Some(event) = came {
+            return Ok(event);
+        }
+    }
+    Err(K::Fault::from(WaitFailed))
+}
+
+/// Serves all clients until something arrives, and sees to that. Answers what has happened, if something has.
+fn wait_inside<M: Machine + Drop, L: Listener, P: Poller, K: LineSink>(
+    inside: &mut Inside<'_, M, L::Client>,
+    listener: &mut L,
+    poller: &mut P,
+    sink: &mut K,
+    until: Option<u64>,
+    room: &mut [u8],
+) -> Result<Option<Event<M::End, L::Miss>>, K::Fault>
+    requires room { 0 < length room.old }
+    requires runs { inside.old.is_broken ≡ false }
+    requires whole { AreClientsSound M.agrees L.Client.did (map (λ name. name.now) inside.old.known.now)
+        inside.old.all inside.old.held.items inside.old.is_broken }
+    ensures happened { IfOk result (λ came. IfSome came (λ event. HasBecome L.Client.did L.did (P.time poller.new) until
+        listener.new (clients_value (map (λ name. name.now) inside.new.known.now) inside.new.limits inside.new.all
+        inside.new.held.items) event)) }
+    ensures stands { IfOk result (λ came. IfSome came (λ event. StandsWhere inside.new.all.places event)) }
+    ensures holds { IfOk result (λ came. IfSome came (λ event. HoldsBehind L.Client.did
+        (map (λ name. name.now) inside.new.known.now) (held_streams inside.new.held.items) event)) }
+    ensures fresh { IfOk result (λ came. IfSome came (λ event.
+        IsNewlyHeld (held_streams inside.old.held.items) event)) }
+    ensures held { OnOk result (StayHeld (held_streams inside.old.held.items) (held_streams inside.new.held.items)) }
+    ensures plays { IfOk result (λ came. PlaysOn K.heard M.agrees L.Client.did M.gives inside.old.all.places
+        inside.new.all.places sink.old sink.new came) }
+    ensures known { OnOk result (inside.new.known ≡ inside.old.known) }
+    ensures limits { OnOk result (inside.new.limits ≡ inside.old.limits) }
+    ensures whole { AreClientsSound M.agrees L.Client.did (map (λ name. name.now) inside.new.known.now)
+        inside.new.all inside.new.held.items inside.new.is_broken }
+{
+    let arrival = run_all(inside, listener, poller, sink, until, room)?;
+    let now = poller.now();
+    match arrival {
+        Arrival::Ended(at) => {
+            let came = ended_at(inside, at, now)?;
+            Ok(came)
+        }
+        Arrival::Client(at, stream) => {
+            receive(inside, at, stream, now);
+            Ok(None)
+        }
+        Arrival::Lost(_) => Ok(None),
+        Arrival::NotAccepted(why) => Ok(deaf_by(inside.there, why)),
+        Arrival::TooLate => Ok(Some(Event::TooLate)),
+    }
+}
+
+/// Serves all clients until something arrives. Behind a fault nothing is known of what goes on with them.
+fn run_all<M: Machine + Drop, L: Listener, P: Poller, K: LineSink>(
+    inside: &mut Inside<'_, M, L::Client>,
+    listener: &mut L,
+    poller: &mut P,
+    sink: &mut K,
+    until: Option<u64>,
+    room: &mut [u8],
+) -> Result<Arrival<L::Client, L::Miss>, K::Fault>
+    requires room { 0 < length room.old }
+    requires whole { AreClientsSound M.agrees L.Client.did (map (λ name. name.now) inside.old.known.now)
+        inside.old.all inside.old.held.items inside.old.is_broken }
+    ensures arrived { IfOk result (λ arrival. HasCome (wants_talk M.wants) L.Client.did L.did (P.time poller.new) until
+        listener.new inside.new.all arrival) }
+    ensures plays { OnOk result (HasGoneOnTo K.heard M.agrees L.Client.did inside.old.all.places inside.new.all.places
+        sink.old sink.new) }
+    ensures known { inside.new.known ≡ inside.old.known }
+    ensures held { inside.new.held.items ≡ inside.old.held.items }
+    ensures limits { inside.new.limits ≡ inside.old.limits }
+    ensures runs { OnOk result (inside.new.is_broken ≡ inside.old.is_broken) }
+    ensures whole { AreClientsSound M.agrees L.Client.did (map (λ name. name.now) inside.new.known.now)
+        inside.new.all inside.new.held.items inside.new.is_broken }
+{
+    match inside
+        .all
+        .run_listening(poller, sink, listener, until, room)
+    {
+        Ok(arrival) => Ok(arrival),
+        Err(why) => {
+            inside.is_broken = true;
+            Err(why)
+        }
+    }
+}
+
+/// What has happened where no client can be taken, for this reason: something, if none of so many is there.
+fn deaf_by<E, W: Copy>(there: usize, why: W) -> Option<Event<E, W>>
+    ensures { IfSome result (λ event. event ≡ Deaf why) }
+{
+    if there == 0 {
+        Some(Event::Deaf(why))
+    } else {
+        None
+    }
+}
+
+/// A client has come, for a place that is empty: its request is to be read.
+fn receive<M: Machine + Drop, S: NonBlocking + Drop>(
+    inside: &mut Inside<'_, M, S>,
+    at: usize,
+    stream: S,
+    now: u64,
+)
+    requires empty { slice_get inside.old.all.places at ≡ Some Empty }
+    requires fresh { S.did stream stream [] }
+    requires whole { AreClientsSound M.agrees S.did (map (λ name. name.now) inside.old.known.now)
+        inside.old.all inside.old.held.items inside.old.is_broken }
+    ensures others { KeepsPlays M.agrees S.did inside.old.all.places inside.new.all.places }
+    ensures known { inside.new.known ≡ inside.old.known }
+    ensures held { inside.new.held.items ≡ inside.old.held.items }
+    ensures limits { inside.new.limits ≡ inside.old.limits }
+    ensures runs { inside.new.is_broken ≡ inside.old.is_broken }
+    ensures whole { AreClientsSound M.agrees S.did (map (λ name. name.now) inside.new.known.now)
+        inside.new.all inside.new.held.items inside.new.is_broken }
+{
+    let bounds = inside.limits.from(now);
+    let slot = Slot {
+        machine: Talk::Admits(AdmitMachine::new(inside.alloc, inside.known)),
+        stream,
+        pace: Pace::begun(now, bounds.limit, bounds.until),
+    };
+    inside.all.put(at, slot);
+    inside.there = inside.there.saturating_add(1);
+}
+
+/// What has come of what went on in this place, which has ended: where the client isn't left, it waits there.
+fn ended_at<M: Machine + Drop, S: NonBlocking + Drop, W>(
+    inside: &mut Inside<'_, M, S>,
+    at: usize,
+    now: u64,
+) -> Result<Option<Event<M::End, W>>, NoMemory>
+    requires over { IsOverAt (wants_talk M.wants) inside.old.all.places at }
+    requires runs { inside.old.is_broken ≡ false }
+    requires whole { AreClientsSound M.agrees S.did (map (λ name. name.now) inside.old.known.now)
+        inside.old.all inside.old.held.items inside.old.is_broken }
+    ensures came { IfOk result (λ came. IfSome came (λ event.
+        IsOfPlace S.did at (map (λ name. name.now) inside.old.known.now) event)) }
+    ensures stands { IfOk result (λ came. IfSome came (λ event. StandsWhere inside.new.all.places event)) }
+    ensures holds { IfOk result (λ came. IfSome came (λ event. HoldsBehind S.did
+        (map (λ name. name.now) inside.old.known.now) (held_streams inside.new.held.items) event)) }
+    ensures fresh { IfOk result (λ came. IfSome came (λ event.
+        IsNewlyHeld (held_streams inside.old.held.items) event)) }
+    ensures held { OnOk result (StayHeld (held_streams inside.old.held.items) (held_streams inside.new.held.items)) }
+    ensures plays { IfOk result (λ came. EndsAtOnce M.agrees S.did M.gives inside.old.all.places inside.new.all.places
+        came) }
+    ensures known { inside.new.known ≡ inside.old.known }
+    ensures limits { inside.new.limits ≡ inside.old.limits }
+    ensures runs { inside.new.is_broken ≡ inside.old.is_broken }
+    ensures whole { AreClientsSound M.agrees S.did (map (λ name. name.now) inside.new.known.now)
+        inside.new.all inside.new.held.items inside.new.is_broken }
+{
+    match inside.all.take(at) {
+        Place::Open(slot) => {
+            let came = end_slot(inside, at, slot, now)?;
+            Ok(came)
+        }
+        Place::Pending(_) => {
+            inside.all.watch(at, AWAITED);
+            Ok(None)
+        }
+        Place::Broken => {
+            inside.there = inside.there.saturating_sub(1);
+            Ok(Some(Event::Gone(at)))
+        }
+        Place::Empty => Ok(None),
+    }
+}
+
+/// What has come of what went on in this slot, which stood in this place, and is done.
+fn end_slot<M: Machine + Drop, S: NonBlocking + Drop, W>(
+    inside: &mut Inside<'_, M, S>,
+    at: usize,
+    slot: Slot<Talk<'_, M>, S>,
+    now: u64,
+) -> Result<Option<Event<M::End, W>>, NoMemory>
+    requires over { (wants_talk M.wants slot.machine).done ≡ true }
+    requires empty { slice_get inside.old.all.places at ≡ Some Empty }
+    requires talk { IsTalkOf M.agrees S.did (map (λ name. name.now) inside.old.known.now) slot }
+    requires whole { AreClientsSound M.agrees S.did (map (λ name. name.now) inside.old.known.now)
+        inside.old.all inside.old.held.items inside.old.is_broken }
+    ensures came { IfOk result (λ came. IfSome came (λ event.
+        IsOfPlace S.did at (map (λ name. name.now) inside.old.known.now) event)) }
+    ensures stands { IfOk result (λ came. IfSome came (λ event. StandsWhere inside.new.all.places event)) }
+    ensures holds { IfOk result (λ came. IfSome came (λ event. HoldsBehind S.did
+        (map (λ name. name.now) inside.old.known.now) (held_streams inside.new.held.items) event)) }
+    ensures fresh { IfOk result (λ came. IfSome came (λ event.
+        IsNewlyHeld (held_streams inside.old.held.items) event)) }
+    ensures held { OnOk result (StayHeld (held_streams inside.old.held.items) (held_streams inside.new.held.items)) }
+    ensures plays { IfOk result (λ came. EndsSlot M.agrees S.did M.gives at slot.entry came) }
+    ensures others { KeepsPlays M.agrees S.did inside.old.all.places inside.new.all.places }
+    ensures known { inside.new.known ≡ inside.old.known }
+    ensures limits { inside.new.limits ≡ inside.old.limits }
+    ensures runs { inside.new.is_broken ≡ inside.old.is_broken }
+    ensures whole { AreClientsSound M.agrees S.did (map (λ name. name.now) inside.new.known.now)
+        inside.new.all inside.new.held.items inside.new.is_broken }
+{
+    let Slot {
+        machine,
+        stream,
+        pace,
+    } = slot;
+    match machine {
+        Talk::Admits(machine) => {
+            hold(inside, at, stream, pace.deadline, now);
+            let admission = machine.into_end()?;
+            Ok(Some(Event::Decided(at, admission)))
+        }
+        Talk::Plays(machine) => {
+            hold(inside, at, stream, pace.deadline, now);
+            inside.busy = inside.busy.saturating_sub(1);
+            let end = machine.into_end()?;
+            Ok(Some(Event::Played(at, end)))
+        }
+        Talk::Leaves(_) => {
+            inside.busy = inside.busy.saturating_sub(1);
+            inside.there = inside.there.saturating_sub(1);
+            Ok(None)
+        }
+    }
+}
+
+/// The stream of a client waits for what is next for it: its place is kept, and the loop doesn't own the stream.
+fn hold<M: Machine + Drop, S: NonBlocking + Drop>(
+    inside: &mut Inside<'_, M, S>,
+    at: usize,
+    stream: S,
+    until: Option<u64>,
+    now: u64,
+)
+    requires empty { slice_get inside.old.all.places at ≡ Some Empty }
+    requires whole { AreClientsSound M.agrees S.did (map (λ name. name.now) inside.old.known.now)
+        inside.old.all inside.old.held.items inside.old.is_broken }
+    ensures awaits { IsAwaitedAt inside.new.all.places at }
+    ensures holds { IsHeldAt (held_streams inside.new.held.items) at stream }
+    ensures held { StayHeld (held_streams inside.old.held.items) (held_streams inside.new.held.items) }
+    ensures others { KeepsPlays M.agrees S.did inside.old.all.places inside.new.all.places }
+    ensures known { inside.new.known ≡ inside.old.known }
+    ensures limits { inside.new.limits ≡ inside.old.limits }
+    ensures runs { inside.new.is_broken ≡ inside.old.is_broken }
+    ensures whole { AreClientsSound M.agrees S.did (map (λ name. name.now) inside.new.known.now)
+        inside.new.all inside.new.held.items inside.new.is_broken }
+{
+    inside.all.watch(at, AWAITED);
+    inside.held[at] = Some(Held {
+        stream,
+        until,
+        since: now,
+    });
+}
+
+/// Plays this to the client in this place, if one waits there.
+fn play_inside<M: Machine + Drop, S: NonBlocking + Drop>(
+    inside: &mut Inside<'_, M, S>,
+    at: usize,
+    machine: M,
+    now: u64,
+) -> bool
+    requires untold { M.agrees machine machine [] }
+    requires goes_on { HasNext (M.wants machine) }
+    requires whole { AreClientsSound M.agrees S.did (map (λ name. name.now) inside.old.known.now)
+        inside.old.all inside.old.held.items inside.old.is_broken }
+    ensures plays { result ≡ true → (stream : S) × IsHeldAt (held_streams inside.old.held.items) at stream
+        × IsPlaying M.agrees S.did machine stream [] inside.new.all.places at }
+    ensures begins { (stream : S) → IsHeldAt (held_streams inside.old.held.items) at stream → result ≡ true }
+    ensures limit { result ≡ true → IsLimitAt inside.old.limits.limit inside.new.all.places at }
+    ensures held { held_streams inside.new.held.items ≡ slice_set (held_streams inside.old.held.items) at None }
+    ensures others { KeepsPlays M.agrees S.did inside.old.all.places inside.new.all.places }
+    ensures known { inside.new.known ≡ inside.old.known }
+    ensures limits { inside.new.limits ≡ inside.old.limits }
+    ensures runs { inside.new.is_broken ≡ inside.old.is_broken }
+    ensures whole { AreClientsSound M.agrees S.did (map (λ name. name.now) inside.new.known.now)
+        inside.new.all inside.new.held.items inside.new.is_broken }
+{
+    let Some(held) = taken_of(&mut inside.held, at) else {
+        return false;
+    };
+    let Held {
+        stream,
+        until,
+        since,
+    } = held;
+    let deadline = later_by(until, now.saturating_sub(since));
+    let slot = Slot {
+        machine: Talk::Plays(machine),
+        stream,
+        pace: Pace::begun(now, inside.limits.limit, deadline),
+    };
+    inside.all.open(at, slot);
+    inside.busy = inside.busy.saturating_add(1);
+    true
+}
+
+/// A time, if there is one, so much later.
+fn later_by(time: Option<u64>, by: u64) -> Option<u64> {
+    match time {
+        Some(time) => Some(time.saturating_add(by)),
+        None => None,
+    }
+}
+
+/// What is held beside this place, if anything is, which is held no longer.
+fn taken_of<S: Drop>(held: &mut Vec<Option<Held<S>>>, at: usize) -> Option<Held<S>>
+    ensures taken { IsTakenOut at held.old.items held.new.items result }
+    ensures none { WasNoneHeld at held.old.items result }
+{
+    if at < held.len() {
+        mem::replace(&mut held[at], None)
+    } else {
+        None
+    }
+}
+
+/// Leaves the client in this place, if one waits there.
+fn leave_inside<M: Machine + Drop, S: NonBlocking + Drop>(
+    inside: &mut Inside<'_, M, S>,
+    at: usize,
+    now: u64,
+)
+    requires whole { AreClientsSound M.agrees S.did (map (λ name. name.now) inside.old.known.now)
+        inside.old.all inside.old.held.items inside.old.is_broken }
+    ensures leaves { (stream : S) → IsHeldAt (held_streams inside.old.held.items) at stream →
+        IsLeftAt S.did stream inside.new.all.places at }
+    ensures held { held_streams inside.new.held.items ≡ slice_set (held_streams inside.old.held.items) at None }
+    ensures others { KeepsPlays M.agrees S.did inside.old.all.places inside.new.all.places }
+    ensures known { inside.new.known ≡ inside.old.known }
+    ensures limits { inside.new.limits ≡ inside.old.limits }
+    ensures runs { inside.new.is_broken ≡ inside.old.is_broken }
+    ensures whole { AreClientsSound M.agrees S.did (map (λ name. name.now) inside.new.known.now)
+        inside.new.all inside.new.held.items inside.new.is_broken }
+{
+    let Some(held) = taken_of(&mut inside.held, at) else {
+        return;
+    };
+    let mut stream = held.stream;
+    stream.end_direction();
+    let slot = Slot {
+        machine: Talk::Leaves(Leaver::new()),
+        stream,
+        pace: Pace::begun(now, None, Some(now.saturating_add(LEAVING))),
+    };
+    inside.all.open(at, slot);
+    inside.busy = inside.busy.saturating_add(1);
+}
+
+/// Reads those that are left to the end, and lets what is played to others end, for a while.
+fn end_inside<M: Machine + Drop, S: NonBlocking + Drop, P: Poller, K: LineSink>(
+    inside: &mut Inside<'_, M, S>,
+    poller: &mut P,
+    sink: &mut K,
+    room: &mut [u8],
+) -> Result<(), K::Fault>
+where
+    M::End: Drop,
+    requires room { 0 < length room.old }
+    requires whole { AreClientsSound M.agrees S.did (map (λ name. name.now) inside.old.known.now)
+        inside.old.all inside.old.held.items inside.old.is_broken }
+    ensures whole { AreClientsSound M.agrees S.did (map (λ name. name.now) inside.new.known.now)
+        inside.new.all inside.new.held.items inside.new.is_broken }
+{
+    let until = poller.now().saturating_add(ENDING);
+    let mut left = u64::MAX;
+    while left > 0 && inside.busy > 0 && !inside.is_broken {
+        left -= 1;
+        let ending = run_on(inside, poller, sink, Some(until), room)?;
+        match ending {
+            Ending::Ended(at) => {
+                let now = poller.now();
+                end_at(inside, at, now)?;
+            }
+            Ending::TooLate | Ending::NoSlot => return Ok(()),
+        }
+    }
+    Ok(())
+}
+
+/// Serves all clients until one of them has ended, or this time has come. Behind a fault nothing is known of what goes
+/// on with them.
+fn run_on<M: Machine + Drop, S: NonBlocking + Drop, P: Poller, K: LineSink>(
+    inside: &mut Inside<'_, M, S>,
+    poller: &mut P,
+    sink: &mut K,
+    until: Option<u64>,
+    room: &mut [u8],
+) -> Result<Ending, K::Fault>
+    requires room { 0 < length room.old }
+    requires whole { AreClientsSound M.agrees S.did (map (λ name. name.now) inside.old.known.now)
+        inside.old.all inside.old.held.items inside.old.is_broken }
+    ensures over { IfOk result (λ ending. IsOverAs (wants_talk M.wants) inside.new.all.places ending) }
+    ensures known { inside.new.known ≡ inside.old.known }
+    ensures runs { OnOk result (inside.new.is_broken ≡ inside.old.is_broken) }
+    ensures whole { AreClientsSound M.agrees S.did (map (λ name. name.now) inside.new.known.now)
+        inside.new.all inside.new.held.items inside.new.is_broken }
+{
+    match inside.all.run(poller, sink, until, room) {
+        Ok(ending) => Ok(ending),
+        Err(why) => {
+            inside.is_broken = true;
+            Err(why)
+        }
+    }
+}
+
+/// What went on in this place has ended: the client is left.
+fn end_at<M: Machine + Drop, S: NonBlocking + Drop>(
+    inside: &mut Inside<'_, M, S>,
+    at: usize,
+    now: u64,
+) -> Result<(), NoMemory>
+where
+    M::End: Drop,
+    requires over { IsOverAt (wants_talk M.wants) inside.old.all.places at }
+    requires runs { inside.old.is_broken ≡ false }
+    requires whole { AreClientsSound M.agrees S.did (map (λ name. name.now) inside.old.known.now)
+        inside.old.all inside.old.held.items inside.old.is_broken }
+    ensures whole { AreClientsSound M.agrees S.did (map (λ name. name.now) inside.new.known.now)
+        inside.new.all inside.new.held.items inside.new.is_broken }
+{
+    let came: Option<Event<M::End, ()>> = ended_at(inside, at, now)?;
+    match came {
+        Some(Event::Decided(at, _) | Event::Played(at, _)) => {
+            leave_inside(inside, at, now);
+            Ok(())
+        }
+        Some(Event::Gone(_) | Event::TooLate | Event::Deaf(_)) | None => Ok(()),
+    }
+}
