@@ -7,3 +7,4 @@ pub mod ShowingLemmas
 pub mod ShownLemmas
 pub mod ProbeShownLemmas
 pub mod StageShownLemmas
+pub mod RunShownLemmas

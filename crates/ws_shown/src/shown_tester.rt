@@ -55,7 +55,7 @@ impl ShownTester {
     }
 
     /// Something happened, of what it wants.
-    fn on_event(&mut self, event: StreamEvent<'_>) -> Result<(), NoMemory>
+    pub(crate) fn on_event(&mut self, event: StreamEvent<'_>) -> Result<(), NoMemory>
         requires may { MayBeTold (wanted_shown self.old) event }
         requires goes { HasNext (wanted_in self.old.tester.run) }
         ensures told { OnOk result (TellsShown self.old self.new (told_at (wanted_shown self.old) event.entry)) }
