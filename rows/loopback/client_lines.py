@@ -18,6 +18,7 @@ CLOSE_BACK = bytes.fromhex("88820000000003e8")
 A_BACK = bytes.fromhex("81810000000061")
 PING = bytes.fromhex("898000000000")
 EMPTY_TEXT = b"\x81\x00"
+EMPTY_PING = b"\x89\x00"
 EMPTY_BACK = b"\x81\x80\x00\x00\x00\x00"
 CAPTURE = """wst-capture 2
 key -
@@ -106,6 +107,13 @@ def right_client(run, path="/"):
     client.close()
 
 
+def goes_away(run, path):
+    """A client that ends its connection once the case has begun."""
+    client = run.client(path)
+    assert client.get(1) == b"\x81"
+    client.close()
+
+
 def a_walk_over_the_cases():
     """As the test clients of libraries do: how many cases, each of them, how it stands, and the reports."""
     run = Listening("test", ADDRESS, "1.1.1", "2.1")
@@ -116,6 +124,7 @@ def a_walk_over_the_cases():
     assert run.line() == "1.1.1 PASS"
     run.is_told("/getCaseStatus?case=1&agent=a", '{"behavior":"OK"}')
     client = run.client("/runCase?agent=a&case=2")
+    assert client.get(len(EMPTY_PING)) == EMPTY_PING
     client.send(EMPTY_BACK)
     client.close()
     assert run.line() == "2.1 FAIL Messages"
@@ -162,8 +171,7 @@ def a_case_that_is_run_twice():
     run = Listening("test", ADDRESS, "1.1.1")
     right_client(run, "/runCase?case=1")
     assert run.line() == "1.1.1 PASS"
-    client = run.client("/runCase?case=1")
-    client.close()
+    goes_away(run, "/runCase?case=1")
     assert run.line() == "1.1.1 FAIL Messages"
     run.is_told("/getCaseStatus?case=1", '{"behavior":"FAILED"}')
     run.is_told("/updateReports")
@@ -213,8 +221,9 @@ def a_client_that_forgets_the_mask():
 def a_client_that_closes_early():
     run = Listening("test", ADDRESS, "1.1.1")
     client = run.client()
+    assert client.get(len(EMPTY_TEXT)) == EMPTY_TEXT
     client.send(CLOSE_BACK)
-    assert client.rest() in (b"", EMPTY_TEXT)
+    assert client.rest() == b""
     run.ends("1.1.1 FAIL Messages", "0 pass, 0 loose, 1 fail", status=1)
 
 
@@ -569,8 +578,8 @@ def a_sweep_of_which_little_is_run():
     run.is_told("/getCaseInfo?case=28", '{"id":"28","description":"1 turns"}')
     run.is_told("/")
     client = run.client()
-    client.half_close()
     assert client.get(1) == b"\x81"
+    client.half_close()
     client.close()
     assert run.line() == 'FAIL Messages: text "a"; close=1000'
     run.is_told("/updateReports")
@@ -603,8 +612,7 @@ def known_lines_of_clients():
     run = Listening("test", "--known", ADDRESS, "1.1.1", "1.1.2", "1.1.3", "2.2", text=known)
     right_client(run, "/runCase?case=1")
     assert run.line() == "1.1.1 PASS"
-    client = run.client("/runCase?case=3")
-    client.close()
+    goes_away(run, "/runCase?case=3")
     assert run.line() == "1.1.3 FAIL Messages (was LOOSE LateEnd)"
     run.is_told("/updateReports")
     counts = "known: 2 same, 2 new, 0 fixed, 0 changed"
@@ -622,8 +630,7 @@ def known_fails_of_clients():
 def a_summary_of_clients():
     """Of the last run of a case; those that no client has asked for are in it."""
     run = Listening("test", "--summary", ADDRESS, "1.1.1", "1.1.2", "1.1.3", "2.2")
-    client = run.client("/runCase?case=2")
-    client.close()
+    goes_away(run, "/runCase?case=2")
     assert run.line() == "1.1.2 FAIL Messages"
     right_client(run, "/runCase?case=1")
     assert run.line() == "1.1.1 PASS"

@@ -117,6 +117,7 @@ def clients_that_fail():
 def clients_that_fail_less_often():
     run_of = Listening("test", "--max-fail=2", ADDRESS, "1.1.1", "2.1")
     client = run_of.client("/runCase?case=1")
+    assert client.get(1) == b"\x81"
     client.close()
     assert run_of.line() == "1.1.1 FAIL Messages"
     run_of.is_told("/updateReports")
@@ -136,6 +137,7 @@ def a_sweep_ends_too():
 def a_sweep_of_clients_ends_too():
     run_of = Listening("sweep", "--max-fail=1", "--steps=1", ADDRESS)
     client = run_of.client("/runCase?case=2")
+    assert client.get(1) == b"\x81"
     client.close()
     run_of.ends('FAIL Messages: text "a"; close=1000', "1 scripts: 0 pass, 0 loose, 1 fail", status=1)
 

@@ -1,18 +1,20 @@
 //! The network in memory of a book, as a loop has it: its calls don't wait. A byte of a connection is there only once
 //! it was waited for, so that what answers a turn never comes before that turn is sent.
 
-use crate::memory_net::{Book, MemoryNet, MemoryStream, PORT, keep_most};
+ghost use Rattle.std.specs.Prelude.{◌≡◌, ◌≤◌, length};
+
+use crate::memory_net::{Book, MemoryListener, MemoryNet, MemoryStream, PORT, keep_most};
 use std::alloc::Global;
 use std::cell::Cell;
 use std::io;
 use std::io::{ErrorKind, Read, Write};
-use std::net::{Net, OpenStream, Shutdown, SocketAddr, ToSocketAddrs};
+use std::net::{Net, OpenListener, OpenStream, Shutdown, SocketAddr, ToSocketAddrs};
 use std::time::Duration;
 use ws_loops::{
     Listener, Mark, NonBlocking, Poller, Readiness, TryAccept, TryRead, TryWrite, WaitFailed, Wake,
 };
 use ws_networks::{Network, Progress};
-use wst_network::{ConnectMiss, Connector, EndingStream, StreamEnd};
+use wst_network::{ConnectMiss, Connector, EndingStream, StreamEnd, is_of_lost_client};
 
 /// How often a poller waits at most.
 const WAITS: u64 = 1_000_000_000;
@@ -34,6 +36,10 @@ pub struct Stage {
     asked: Cell<u32>,
     is_there: Cell<bool>,
     silence: Cell<Silence>,
+    /// So many places have had a client.
+    places: Cell<usize>,
+    /// The last client was not ended from this side.
+    is_open: Cell<bool>,
 }
 
 impl Stage {
@@ -43,7 +49,16 @@ impl Stage {
             asked: Cell::new(0),
             is_there: Cell::new(false),
             silence: Cell::new(Silence::Never),
+            places: Cell::new(1),
+            is_open: Cell::new(false),
         }
+    }
+
+    /// A client was taken for this place.
+    fn receive(&self, at: usize) {
+        self.asked.set(2);
+        self.places.set(self.places.get().max(at.saturating_add(1)));
+        self.is_open.set(true);
     }
 
     /// A connection is begun.
@@ -117,7 +132,7 @@ impl<'a> Network for PolledNetwork<'a> {
 
     type Stream = PolledStream<'a>;
 
-    type Listener = NoListener<'a>;
+    type Listener = PolledListener<'a>;
 
     type Miss = ConnectMiss;
 
@@ -171,22 +186,33 @@ impl<'a> Network for PolledNetwork<'a> {
         }
     }
 
-    fn bind(&mut self, _address: SocketAddr) -> Result<NoListener<'a>, ConnectMiss> {
-        Err(ConnectMiss::NotTaken(ErrorKind::AddrNotAvailable))
+    fn bind(&mut self, address: SocketAddr) -> Result<PolledListener<'a>, ConnectMiss> {
+        let net = MemoryNet { book: self.book };
+        match net.bind(address) {
+            Ok(listener) => Ok(PolledListener {
+                book: self.book,
+                listener,
+            }),
+            Err(error) => Err(ConnectMiss::NotTaken(error.kind())),
+        }
     }
 
-    fn address_of(&mut self, _listener: &NoListener<'a>) -> Result<SocketAddr, ConnectMiss> {
-        Err(ConnectMiss::NotTaken(ErrorKind::AddrNotAvailable))
+    fn address_of(&mut self, listener: &PolledListener<'a>) -> Result<SocketAddr, ConnectMiss> {
+        match listener.listener.local_addr() {
+            Ok(address) => Ok(address),
+            Err(error) => Err(ConnectMiss::NotTaken(error.kind())),
+        }
     }
 }
 
-/// No row needs a listener that doesn't wait: no address of such a network can be listened at.
+/// A listener of such a network: a client comes once the one before it was ended from this side.
 #[derive(Drop)]
-pub struct NoListener<'a> {
-    _book: &'a Book<'a>,
+pub struct PolledListener<'a> {
+    book: &'a Book<'a>,
+    listener: MemoryListener<'a>,
 }
 
-impl<'a> Listener for NoListener<'a> {
+impl<'a> Listener for PolledListener<'a> {
     ghost use Rattle.std.specs.Prelude.{⊤};
 
     type Client = PolledStream<'a>;
@@ -195,7 +221,25 @@ impl<'a> Listener for NoListener<'a> {
 
     ghost did = { λ old new deeds. ⊤ };
 
-    fn try_accept(&mut self, _at: usize) -> TryAccept<PolledStream<'a>, ConnectMiss> {
+    fn try_accept(&mut self, at: usize) -> TryAccept<PolledStream<'a>, ConnectMiss> {
+        if self.book.stage.is_open.get() {
+            return TryAccept::NotReady;
+        }
+        for _ in 0..u64::MAX {
+            match self.book.next() {
+                Ok(stream) => {
+                    self.book.stage.receive(at);
+                    return TryAccept::Client(PolledStream {
+                        book: self.book,
+                        stream,
+                        held: 0,
+                        end: StreamEnd::Open,
+                    });
+                }
+                Err(error) if is_of_lost_client(&error) => {}
+                Err(error) => return TryAccept::Failed(ConnectMiss::NotTaken(error.kind())),
+            }
+        }
         TryAccept::NotReady
     }
 }
@@ -273,6 +317,7 @@ impl NonBlocking for PolledStream<'_> {
     }
 
     fn end_direction(&mut self) {
+        self.book.stage.is_open.set(false);
         let _ = self.stream.shutdown(Shutdown::Write);
     }
 }
@@ -326,16 +371,29 @@ impl Poller for MemoryPoller<'_> {
             }
         }
         self.book.stage.come();
-        if found.is_empty() {
-            return Ok(0);
-        }
-        found[0] = Wake {
-            mark: Mark::Place(0),
+        Ok(tell_all(found, self.book.stage.places.get()))
+    }
+}
+
+/// Tells of the listener, and of the streams in so many places, as far as there is room, and answers of how many.
+fn tell_all(found: &mut [Wake], places: usize) -> usize
+    ensures len { length found.new ≡ length found.old }
+    ensures count { result ≤ length found.new }
+{
+    let mut count = 0;
+    while count < found.len() && count <= places {
+        let mark = match count.checked_sub(1) {
+            Some(at) => Mark::Place(at),
+            None => Mark::Listener,
+        };
+        found[count] = Wake {
+            mark,
             ready: Readiness {
                 read: true,
                 write: true,
             },
         };
-        Ok(1)
+        count += 1;
     }
+    count
 }

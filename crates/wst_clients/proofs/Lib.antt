@@ -1,5 +1,10 @@
--- The lemmas behind clients under test: what came of each connection, and what is told or captured of them all.
+-- The lemmas behind clients under test: what came of each turn, and what is told or captured of them all.
 pub mod VisitLemmas
+pub mod TurnLemmas
+pub mod VisitorLemmas
+pub mod HeldLemmas
+pub mod VisitingLemmas
 pub mod ClientLemmas
 pub mod CaptureLemmas
-pub mod Late
+pub mod UnmetLemmas
+pub mod SendLemmas

@@ -1,7 +1,10 @@
 pub mod ClientLines
 pub mod Visits
+pub mod Visitors
+pub mod Turns
 pub mod VisitOutcomes
 pub mod LateClients
 pub mod ClientTests
 pub mod ClientCaptures
 pub mod ClientSends
+pub mod PlacedLines

@@ -1,19 +1,19 @@
--- What is told of connections of clients under test, and how the cases stand after them.
+-- What is told of the turns of clients under test, and how the cases stand after them.
 use Rattle.std.specs.Prelude.{◌≡◌, ℕ, ◌+◌, ◌<◌, ◌^◌, Bool, true, false, ⊤, List, [], ◌∷◌, ◌++◌, Option}
 use Rattle.std.specs.Prelude.{Some, None, length, flat_map}
+use Rattle.std.specs.List.{All}
 use Rattle.ws_wire.specs.declared.role.Role.TheVariants.{Client}
 use Rattle.ws_paths.specs.Paths.{AsksWithin}
 use Rattle.ws_paths.specs.Standings.{StandingValue, after_connection, ends_run}
 use Rattle.ws_paths.specs.declared.behavior.Behavior.{Behavior}
 use Rattle.ws_paths.specs.declared.behavior.Behavior.TheVariants as behavior
-use Rattle.ws_paths.specs.declared.purpose.Purpose.{Purpose}
 use Rattle.ws_scripts.specs.declared.script.Case.{Case}
 use Rattle.ws_scripts.specs.declared.transcript.Transcript.{Transcript}
 use Rattle.ws_suite.specs.declared.verdict.Verdict.{Verdict}
 use Rattle.ws_suite.specs.declared.verdict.Verdict.TheVariants.{Fail, Loose, Pass}
 use Rattle.wst_commands.specs.Explaining.{IsJudgementOf}
 use Rattle.wst_commands.specs.declared.explaining.Judgement.{Judgement}
-use Rattle.wst_clients.specs.Visits.{case_for, case_notes, refused_line}
+use Rattle.wst_clients.specs.Visits.{Met, Passing, case_for, case_notes, notes_of_passing}
 use Rattle.wst_testing.specs.declared.outcome.Outcome.{Outcome}
 use Rattle.wst_testing.specs.declared.outcome.Outcome.TheVariants.{HeadRefused, Judged, NoConnection, NotRun}
 use Rattle.wst_testing.specs.declared.outcome.Score.{Score}
@@ -23,7 +23,7 @@ use Rattle.wst_clients.specs.declared.visiting.Visit.{Visit}
 use Rattle.wst_clients.specs.declared.visiting.Visit.TheVariants as visit
 use Rattle.wst_clients.specs.declared.visiting.VisitRules.{VisitRules}
 use Rattle.wst_clients.specs.declared.visit_outcome.VisitOutcome.{VisitOutcome}
-use Rattle.wst_clients.specs.declared.visit_outcome.VisitOutcome.TheVariants.{Lost, Ran, Refused, Told}
+use Rattle.wst_clients.specs.declared.visit_outcome.VisitOutcome.TheVariants.{Over, Ran}
 
 -- ---- what is told of a connection
 
@@ -32,29 +32,36 @@ abbrev pub IsClientOutcome : Option DataStyle → Expectation → Transcript →
 IsClientOutcome explains expected transcript outcome =
     (told : Judgement) × (outcome ≡ Judged told) × IsJudgementOf explains Client expected transcript told
 
--- this is told of what came of a connection
+-- this is told of what a turn came to
 abbrev pub IsVisitOutcome : Option DataStyle → Expectation → Visit → VisitOutcome → Type 0
-IsVisitOutcome explains expected visit.Lost Lost = ⊤
-IsVisitOutcome explains expected (visit.Refused fault) (Refused other) = other ≡ fault
-IsVisitOutcome explains expected (visit.Told purpose) (Told other) = other ≡ purpose
+IsVisitOutcome explains expected visit.Over Over = ⊤
 IsVisitOutcome explains expected (visit.Ran purpose transcript) (Ran other outcome) =
     (other ≡ purpose) × IsClientOutcome explains expected transcript outcome
 IsVisitOutcome explains expected _ _ = ⊥
 
 -- the case that is run is one of those that are given
 abbrev pub AsksInside : VisitRules → VisitOutcome → Type 0
-AsksInside rules Lost = ⊤
-AsksInside rules (Refused fault) = ⊤
-AsksInside rules (Told purpose) = AsksWithin (length rules.cases.now) purpose
+AsksInside rules Over = ⊤
 AsksInside rules (Ran purpose outcome) = AsksWithin (length rules.cases.now) purpose
 
--- this may be told of a client that can be visited so, where the cases stand so
-pub record ComesTo (Visits : StandingValue → Visit → Type 0) (rules : VisitRules) (standing : StandingValue)
-    (outcome : VisitOutcome) : Type 0 where
+-- this may be told of a turn, where the cases stand so
+pub record ComesTo (c : Met) (rules : VisitRules) (standing : StandingValue) (outcome : VisitOutcome) : Type 0 where
   pub visit : Visit
-  pub visited : Visits standing visit
+  pub visited : c.visits rules standing visit
   pub told : IsVisitOutcome rules.explains rules.expected visit outcome
   pub inside : AsksInside rules outcome
+
+-- One turn: who passed by before it, what is told of it, and who passed by in it.
+pub record TakenTurn : Type 0 where
+  pub before : List Passing
+  pub outcome : VisitOutcome
+  pub during : List Passing
+
+-- it may be taken so, where the cases stand so
+pub record MayBeTaken (c : Met) (rules : VisitRules) (standing : StandingValue) (turn : TakenTurn) : Type 0 where
+  pub before : All (c.passes rules standing) turn.before
+  pub comes : ComesTo c rules standing turn.outcome
+  pub during : All (c.passes rules standing) turn.during
 
 -- ---- its line and its notes
 
@@ -65,17 +72,17 @@ test_of (Some case) outcome = (case, outcome) ∷ []
 
 -- the case that was run, if one was, with what is told of the client in it
 abbrev pub tests_in : VisitRules → VisitOutcome → List (Case × Outcome)
-tests_in rules Lost = []
-tests_in rules (Refused fault) = []
-tests_in rules (Told purpose) = []
+tests_in rules Over = []
 tests_in rules (Ran purpose outcome) = test_of (case_for rules.cases.now purpose) outcome
 
--- what is told on the fault output
+-- what is told on the fault output as a turn begins, and of all of it
 abbrev pub outcome_notes : VisitRules → VisitOutcome → List (List ℕ)
-outcome_notes rules Lost = []
-outcome_notes rules (Refused fault) = refused_line fault ∷ []
-outcome_notes rules (Told purpose) = []
+outcome_notes rules Over = []
 outcome_notes rules (Ran purpose outcome) = case_notes rules.progress (case_for rules.cases.now purpose)
+
+abbrev pub turn_notes : VisitRules → TakenTurn → List (List ℕ)
+turn_notes rules turn = notes_of_passing turn.before ++ outcome_notes rules turn.outcome
+    ++ notes_of_passing turn.during
 
 -- ---- how the cases stand
 
@@ -91,38 +98,33 @@ behavior_for (HeadRefused refusal) = behavior.Failed
 behavior_for (NoConnection why) = behavior.Failed
 behavior_for NotRun = behavior.Unimplemented
 
--- after a connection: a request that was refused, or lost, counts for nothing
+-- after a turn
 abbrev pub after_outcome : StandingValue → VisitOutcome → StandingValue
-after_outcome standing Lost = standing
-after_outcome standing (Refused fault) = standing
-after_outcome standing (Told purpose) = standing
+after_outcome standing Over = standing
 after_outcome standing (Ran purpose outcome) = after_connection standing purpose (behavior_for outcome)
 
 -- a run of so many cases ends with it
 abbrev pub ends_with_outcome : ℕ → VisitOutcome → Bool
-ends_with_outcome count Lost = false
-ends_with_outcome count (Refused fault) = false
-ends_with_outcome count (Told purpose) = ends_run count purpose
+ends_with_outcome count Over = true
 ends_with_outcome count (Ran purpose outcome) = ends_run count purpose
 
--- ---- connections one after the other
+-- ---- turns one after the other
 
--- From the one standing of the cases such connections lead to the other, each of which may come to that where the cases
--- stand as those before it have left them, and none of them ends the run.
-abbrev pub AreVisits : (StandingValue → VisitOutcome → Type 0) → VisitRules → StandingValue → List VisitOutcome
-    → StandingValue → Type 0
-AreVisits Comes rules start [] end = start ≡ end
-AreVisits Comes rules start (outcome ∷ outcomes) end = Comes start outcome
-    × (ends_with_outcome (length rules.cases.now) outcome ≡ false)
-    × AreVisits Comes rules (after_outcome start outcome) outcomes end
+-- From the one standing of the cases such turns lead to the other, each of which may be taken so where the cases stand
+-- as those before it have left them, and none of them ends the run.
+abbrev pub AreVisits : Met → VisitRules → StandingValue → List TakenTurn → StandingValue → Type 0
+AreVisits c rules start [] end = start ≡ end
+AreVisits c rules start (turn ∷ turns) end = MayBeTaken c rules start turn
+    × (ends_with_outcome (length rules.cases.now) turn.outcome ≡ false)
+    × AreVisits c rules (after_outcome start turn.outcome) turns end
 
 -- the cases that were run, and what is told of the clients in them
-abbrev pub tests_of : VisitRules → List VisitOutcome → List (Case × Outcome)
-tests_of rules outcomes = flat_map (tests_in rules) outcomes
+abbrev pub tests_of : VisitRules → List TakenTurn → List (Case × Outcome)
+tests_of rules turns = flat_map (λ turn. tests_in rules turn.outcome) turns
 
 -- what is told of all on the fault output
-abbrev pub notes_of_visits : VisitRules → List VisitOutcome → List (List ℕ)
-notes_of_visits rules outcomes = flat_map (outcome_notes rules) outcomes
+abbrev pub notes_of_visits : VisitRules → List TakenTurn → List (List ℕ)
+notes_of_visits rules turns = flat_map (turn_notes rules) turns
 
 -- a case that no client has asked for: one of which nothing came
 abbrev pub not_run_if : Case → Behavior → List (Case × Outcome)

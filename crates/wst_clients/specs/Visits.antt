@@ -1,20 +1,19 @@
--- One connection of a client under test: its request is answered, and the script of what it asks for is run over it
--- (RFC 6455 sections 4.2 and 5 to 7).
-use Rattle.std.specs.Prelude.{◌≡◌, ℕ, ◌-◌, ◌⊎◌, ⊤, Bool, List, [], ◌∷◌, ◌++◌, Option, Some, None, String, length, map}
-use Rattle.std.specs.Prelude.{slice_get}
-use Rattle.std.specs.Prelude.{codes, string_bytes}
-use Rattle.std.specs.List.{All}
+-- The turns of clients under test: the request of each who comes is answered (RFC 6455 sections 4.2 and 5 to 7), and
+-- what it asks for is told at once, or run when it is its turn.
+use Rattle.std.specs.Prelude.{◌≡◌, ℕ, ◌-◌, ⊤, Bool, List, [], ◌∷◌, ◌++◌, Option, Some, None, String, length, map}
+use Rattle.std.specs.Prelude.{codes, flat_map, slice_get, string_bytes}
+use Rattle.std.specs.List.{All, concat}
 use Rattle.std.specs.declared.alloc.Global.{Global}
 use Rattle.ws_wire.specs.declared.role.Role.TheVariants.{Client}
 use Rattle.ws_frame.specs.Devices.{Device}
 use Rattle.ws_upgrade.specs.Protocols.{AreOffers}
 use Rattle.ws_upgrade.specs.Words.{head_fault_name}
 use Rattle.ws_upgrade.specs.declared.faults.HeadFault.{HeadFault}
-use Rattle.ws_connection.specs.Admitting.{Admits}
-use Rattle.ws_connection.specs.ConnectionValues.{ConnectionRun, ConnectionValue}
-use Rattle.ws_connection.specs.Probing.{Records, bytes_by_turn}
+use Rattle.ws_clients.specs.Talks.{IsAdmission}
 use Rattle.ws_handshake.specs.declared.admission.AcceptedRequest.{AcceptedRequest}
 use Rattle.ws_handshake.specs.declared.admission.Admission.TheVariants as admission
+use Rattle.ws_loops.specs.Deeds.{Deed, Happened, HasDone, all_done, all_told}
+use Rattle.ws_machines.specs.Told.{Told}
 use Rattle.ws_paths.specs.Paths.{AsksWithin, IsPurpose}
 use Rattle.ws_paths.specs.Standings.{StandingValue, behavior_of}
 use Rattle.ws_paths.specs.Telling.{IsToldBy}
@@ -22,14 +21,21 @@ use Rattle.ws_paths.specs.Texts.{count_text, info_text, status_text}
 use Rattle.ws_paths.specs.declared.purpose.Purpose.{Purpose}
 use Rattle.ws_paths.specs.declared.purpose.Purpose.TheVariants.{CaseCount, CaseInfo, CaseStatus, NextCase, NoCase}
 use Rattle.ws_paths.specs.declared.purpose.Purpose.TheVariants.{RunCase, UpdateReports}
-use Rattle.ws_scripts.specs.Scripts.{CanBeRun, turns_of}
+use Rattle.ws_scripts.specs.Scripts.{CanBeRun, turn_bytes, turns_of}
 use Rattle.ws_scripts.specs.declared.expectation.Expectation.{Expectation}
 use Rattle.ws_scripts.specs.declared.script.Case.{Case}
 use Rattle.ws_scripts.specs.declared.transcript.Transcript.{Transcript}
+use Rattle.ws_tester.specs.Following.{BeginsRun}
+use Rattle.ws_tester.specs.Outgoings.{HaveBytes, Pieces}
+use Rattle.ws_tester.specs.Records.{IsRecorded}
+use Rattle.ws_tester.specs.RunStates.{PlanValue, RunState}
+use Rattle.ws_shown.specs.ShownTesters.{without_reports}
 use Rattle.wst_testing.specs.Notes.{TellsEach, progress_notes}
+use Rattle.wst_testing.specs.Servers.{DidThese}
 use Rattle.wst_clients.specs.ClientLines.{name_told}
+use Rattle.wst_clients.specs.declared.visiting.NoVisit.{NoVisit}
 use Rattle.wst_clients.specs.declared.visiting.Visit.{Visit}
-use Rattle.wst_clients.specs.declared.visiting.Visit.TheVariants.{Lost, Ran, Refused, Told}
+use Rattle.wst_clients.specs.declared.visiting.Visit.TheVariants.{Over, Ran}
 use Rattle.wst_clients.specs.declared.visiting.VisitRules.{VisitRules}
 
 -- ---- what is asked for
@@ -76,55 +82,87 @@ abbrev pub TellsFor : VisitRules → StandingValue → Purpose → Case → Type
 TellsFor rules standing purpose script =
     (text : Option (String Global)) × IsTextFor rules standing purpose text × IsToldBy text script
 
--- ---- what came of a connection
+-- ---- a script that is played
 
--- a script was run with a client of which this is expected, whether waits can be in vain or not, and the first turn has
--- got these bytes; the frames of a server are not masked
-abbrev pub RunsOver : Expectation → Bool → Case → List ℕ → Transcript → ConnectionRun → Type 0
-RunsOver expected timeouts script first transcript run =
-    Records (record { tested = Client; expected = expected; timeouts = timeouts }) (bytes_by_turn script None) first
-    transcript run
+-- how a script is run with a client of which this is expected, whether waits can be in vain or not
+abbrev pub client_plan : Expectation → Bool → PlanValue
+client_plan expected timeouts = record { tested = Client; expected = expected; timeouts = timeouts }
 
--- what was asked for was done behind the head: its text was told, or its case was run
-abbrev pub PlaysTo : VisitRules → StandingValue → Purpose → List ℕ → Visit → ConnectionRun → Type 0
-PlaysTo rules standing purpose first Lost run = ⊥
-PlaysTo rules standing purpose first (Refused fault) run = ⊥
-PlaysTo rules standing purpose first (Told other) run = (other ≡ purpose) × (case_for rules.cases.now purpose ≡ None)
-    × ((script : Case) × (transcript : Transcript) × TellsFor rules standing purpose script
-    × RunsOver rules.expected rules.has_timeouts script first transcript run)
-PlaysTo rules standing purpose first (Ran other transcript) run = (other ≡ purpose)
-    × ((case : Case) × (case_for rules.cases.now purpose ≡ Some case)
-    × RunsOver rules.expected rules.has_timeouts case first transcript run)
+-- The tester of a script for a client begins so, where at most so many bytes are read behind its head, and these have
+-- come with it: the frames of a server are not masked.
+pub record BeginsScript (plan : PlanValue) (budget : ℕ) (script : Case) (first : List ℕ) (start : RunState) : Type 0
+  where
+    pub pieces : List Pieces
+    pub bytes : map concat pieces ≡ map (turn_bytes None) (turns_of script.steps)
+    pub has_bytes : HaveBytes pieces
+    pub begins : BeginsRun (record { plan = plan; script = pieces; budget = budget; first = first }) start
 
--- The request was accepted, whose path has this purpose, and that was done over the connection behind it.
-pub record IsVisited (rules : VisitRules) (standing : StandingValue) (purpose : Purpose) (visit : Visit)
-    (run : ConnectionRun) : Type 0 where
-  pub behind : ConnectionValue
-  pub request : AcceptedRequest
-  pub accepted : Admits (known_by rules) (admission.Accepted request) (record { old = run.old; new = behind })
+-- A run that began so was run to its end over some stream: the transcript is what the tester gives, by all that it was
+-- told, and that is what the stream did, and what the clock says.
+pub record IsRunOver (start : RunState) (transcript : Transcript) : Type 0 where
+  pub happened : List Happened
+  pub told : List Told
+  pub is_told : without_reports told ≡ without_reports (all_told happened)
+  pub recorded : IsRecorded start told transcript
+  pub before : List Deed
+  pub last : List Deed
+  pub done : HasDone DidThese before last (all_done happened)
+
+-- the script was played to its end so
+abbrev pub IsPlayed : PlanValue → ℕ → Case → List ℕ → Transcript → Type 0
+IsPlayed plan budget script first transcript = (start : RunState) × BeginsScript plan budget script first start
+    × IsRunOver start transcript
+
+abbrev pub visit_plan : VisitRules → PlanValue
+visit_plan rules = client_plan rules.expected rules.has_timeouts
+
+-- ---- what came of a turn
+
+-- a request was accepted, whose path has this purpose
+pub record IsAsked (rules : VisitRules) (standing : StandingValue) (purpose : Purpose) (request : AcceptedRequest)
+    : Type 0 where
+  pub accepted : IsAdmission DidThese (known_by rules) (admission.Accepted request)
   pub is_purpose : IsPurpose (length rules.cases.now) standing.asked request.path.items purpose
-  pub plays : PlaysTo rules standing purpose request.behind.items visit
-      (record { old = behind; new = run.new })
 
--- what came of a connection
-abbrev pub Visits : VisitRules → StandingValue → Visit → ConnectionRun → Type 0
-Visits rules standing Lost run = Admits (known_by rules) admission.Lost run
-Visits rules standing (Refused fault) run = Admits (known_by rules) (admission.Refused fault) run
-Visits rules standing (Told purpose) run = IsVisited rules standing purpose (Told purpose) run
-Visits rules standing (Ran purpose transcript) run = IsVisited rules standing purpose (Ran purpose transcript) run
+-- Who asked for this was told so at once: for it no case is run.
+pub record IsToldAtOnce (rules : VisitRules) (standing : StandingValue) (purpose : Purpose) : Type 0 where
+  pub request : AcceptedRequest
+  pub asked : IsAsked rules standing purpose request
+  pub no_case : case_for rules.cases.now purpose ≡ None
+  pub script : Case
+  pub tells : TellsFor rules standing purpose script
 
--- what was asked for is asked of cases that are given
+-- The case was run that was asked for, to its end.
+pub record IsRun (rules : VisitRules) (standing : StandingValue) (purpose : Purpose) (transcript : Transcript) : Type 0
+  where
+    pub request : AcceptedRequest
+    pub asked : IsAsked rules standing purpose request
+    pub case : Case
+    pub is_case : case_for rules.cases.now purpose ≡ Some case
+    pub played : IsPlayed (visit_plan rules) rules.budget case request.behind.items transcript
+
+-- what a turn came to: the end of the run was asked for, or a case was run
+abbrev pub Visits : VisitRules → StandingValue → Visit → Type 0
+Visits rules standing Over = IsToldAtOnce rules standing UpdateReports
+Visits rules standing (Ran purpose transcript) = IsRun rules standing purpose transcript
+
+-- the case that was run is one of those that are given
 abbrev pub IsInside : VisitRules → Visit → Type 0
-IsInside rules Lost = ⊤
-IsInside rules (Refused fault) = ⊤
-IsInside rules (Told purpose) = AsksWithin (length rules.cases.now) purpose
+IsInside rules Over = ⊤
 IsInside rules (Ran purpose transcript) = AsksWithin (length rules.cases.now) purpose
 
--- There is a connection with this budget that was visited so. Where its bytes are not known, as those of a network's
--- streams, this says only what can come of one.
-abbrev pub IsVisitedSo : VisitRules → StandingValue → Visit → Type 0
-IsVisitedSo rules standing visit =
-    (run : ConnectionRun) × (run.old.input.allowance ≡ rules.budget) × Visits rules standing visit run
+-- ---- who passes by: others, before a turn and in it
+
+-- Its request was not whole, or it could not be answered; it was refused; or it was told at once what it asked for.
+pub data Passing : Type 0 where
+  Lost : Passing
+  Refused : HeadFault → Passing
+  Answered : Purpose → Passing
+
+abbrev pub Passes : VisitRules → StandingValue → Passing → Type 0
+Passes rules standing Lost = ⊤
+Passes rules standing (Refused fault) = IsAdmission DidThese (known_by rules) (admission.Refused fault)
+Passes rules standing (Answered purpose) = IsToldAtOnce rules standing purpose
 
 -- ---- what is told on the fault output
 
@@ -137,16 +175,64 @@ case_notes progress (Some case) = progress_notes progress case
 abbrev pub refused_line : HeadFault → List ℕ
 refused_line fault = codes "refused " ++ head_fault_name fault ++ codes "\n"
 
--- of a connection while it goes on
-abbrev pub visit_notes : VisitRules → Visit → List (List ℕ)
-visit_notes rules Lost = []
-visit_notes rules (Refused fault) = refused_line fault ∷ []
-visit_notes rules (Told purpose) = []
-visit_notes rules (Ran purpose transcript) = case_notes rules.progress (case_for rules.cases.now purpose)
+-- of who passes by
+abbrev pub passing_notes : Passing → List (List ℕ)
+passing_notes Lost = []
+passing_notes (Refused fault) = refused_line fault ∷ []
+passing_notes (Answered purpose) = []
 
--- where memory runs out: nothing, or what is told of some connection
-abbrev pub AreSomeNotes : VisitRules → List (List ℕ) → Type 0
-AreSomeNotes rules notes = (notes ≡ []) ⊎ ((visit : Visit) × (notes ≡ visit_notes rules visit))
+abbrev pub notes_of_passing : List Passing → List (List ℕ)
+notes_of_passing passing = flat_map passing_notes passing
 
-abbrev pub TellsSome : VisitRules → Device → Type 0
-TellsSome rules faults = (notes : List (List ℕ)) × AreSomeNotes rules notes × TellsEach notes faults
+-- What is known of those who are met: what may come of a turn, and who may pass by, by these rules and where the cases
+-- stand so.
+pub record Met : Type 1 where
+  pub visits : VisitRules → StandingValue → Visit → Type 0
+  pub passes : VisitRules → StandingValue → Passing → Type 0
+
+-- What is known where nobody is met: that there is no turn by these rules, for this reason; and that none can be waited
+-- for any more.
+pub record Unmet : Type 1 where
+  pub none : VisitRules → NoVisit → Type 0
+  pub fails : Type 0
+
+-- some of them can't be waited for any more
+abbrev pub AreFailing : {C : Type 0} → (C → Type 0) → Type 0
+AreFailing {C} fails = (clients : C) × fails clients
+
+-- so of clients of a kind, of which some have said why there is no turn, or can't be waited for
+abbrev pub unmet_by : {C : Type 0} → (VisitRules → NoVisit → C → Type 0) → (C → Type 0) → Unmet
+unmet_by {C} none fails = record {
+  none = λ rules why. (clients : C) × none rules why clients;
+  fails = AreFailing fails;
+}
+
+-- such ones passed by, and what was told of them is told
+pub record HavePassed (c : Met) (rules : VisitRules) (standing : StandingValue) (faults : Device) : Type 0 where
+  pub passing : List Passing
+  pub pass : All (c.passes rules standing) passing
+  pub noted : TellsEach (notes_of_passing passing) faults
+
+-- a case begins, of which this is told
+abbrev pub begun_notes : VisitRules → Visit → List (List ℕ)
+begun_notes rules Over = []
+begun_notes rules (Ran purpose transcript) = case_notes rules.progress (case_for rules.cases.now purpose)
+
+-- A turn came to this, where such ones passed by before it, and such ones in it; and that was told.
+pub record IsTurnTaken (c : Met) (rules : VisitRules) (standing : StandingValue) (visit : Visit) (faults : Device)
+    : Type 0 where
+  pub before : List Passing
+  pub pass : All (c.passes rules standing) before
+  pub visits : c.visits rules standing visit
+  pub during : List Passing
+  pub pass_too : All (c.passes rules standing) during
+  pub noted : TellsEach (notes_of_passing before ++ begun_notes rules visit ++ notes_of_passing during) faults
+
+-- Where a turn is not taken to its end such ones passed by, and perhaps a case has begun.
+pub record BreaksTurn (c : Met) (rules : VisitRules) (standing : StandingValue) (faults : Device) : Type 0 where
+  pub before : List Passing
+  pub pass : All (c.passes rules standing) before
+  pub case : Option Case
+  pub during : List Passing
+  pub pass_too : All (c.passes rules standing) during
+  pub noted : TellsEach (notes_of_passing before ++ case_notes rules.progress case ++ notes_of_passing during) faults

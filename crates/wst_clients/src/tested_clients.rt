@@ -1,174 +1,85 @@
-//! Clients under test, which come one after the other: what is known of a connection to one, and those of a listener.
+//! Those who come to be tested: what is known of them, and those of a listener.
 
-ghost use Rattle.std.specs.Prelude.{◌≡◌, IfOk, OnErr};
+ghost use Rattle.std.specs.Prelude.{IfErr, IfOk, OnErr};
 ghost use Rattle.ws_frame.specs.Devices.{watched};
-ghost use Rattle.ws_connection.specs.Observing.{HearsProbe, IsHearing};
-ghost use Rattle.ws_scripts.specs.Scripts.{CanBeRun};
-ghost use Rattle.ws_upgrade.specs.Protocols.{AreOffers};
 ghost use Rattle.wst_commands.specs.Devices.{StaysFailed};
-ghost use Rattle.wst_clients.specs.ClientSends.{IsScriptedSo, protocols_known, scripted_probe};
-ghost use Rattle.wst_testing.specs.Notes.{TellsEach};
-ghost use Rattle.wst_clients.specs.Visits.{CanBeVisited, IsInside, IsVisitedSo, TellsSome, visit_notes};
+ghost use Rattle.wst_clients.specs.Turns.{IsWhyNone, MayFail, StopsFor, TakesNext};
+ghost use Rattle.wst_clients.specs.Visitors.{AreHeld, AreTestedBy};
+ghost use Rattle.wst_clients.specs.Visits.{BreaksTurn, CanBeVisited, IsInside, Passes, Visits, unmet_by};
 
-use crate::scripting::{ScriptRules, Scripted, script_over};
-use crate::visiting::{Visit, VisitRules, visit_client};
-use std::alloc::Global;
-use std::cell::{Cell, RefCell};
-use std::io::{Read, Write};
-use std::net::{OpenListener, OpenStream};
-use std::os::fd::AsRawFd;
-use std::slice;
-use ws_base::NoMemory;
-use ws_connection::{Connection, Observer};
+use crate::visiting::{NoVisit, Round, Visit, take_next};
+use crate::visitors::Visitors;
+use std::io::Write;
 use ws_frame::Watched;
-use ws_paths::Standing;
-use ws_suite::Case;
-use wst_sockets::{
-    Clients, ListenerClients, Network, Pace, PatientReader, PatientWriter, Running, WaitTeller,
-};
+use ws_loops::{Listener, LoopFault, NoLines, Poller};
+use ws_tester::Tester;
 
 /// Clients of one kind that are tested.
-pub trait TestedClients: Clients {
+pub trait TestedClients {
     ghost use Rattle.ws_paths.specs.Standings.{StandingValue};
-    ghost use Rattle.ws_scripts.specs.declared.script.Case.{Case};
-    ghost use Rattle.wst_clients.specs.declared.scripting.ScriptRules.{ScriptRules};
-    ghost use Rattle.wst_clients.specs.declared.scripting.Scripted.{Scripted};
+    ghost use Rattle.wst_clients.specs.Visits.{Passing};
+    ghost use Rattle.wst_clients.specs.declared.visiting.NoVisit.{NoVisit};
     ghost use Rattle.wst_clients.specs.declared.visiting.Visit.{Visit};
     ghost use Rattle.wst_clients.specs.declared.visiting.VisitRules.{VisitRules};
 
-    /// This may come of a client that is visited by these rules, where the cases stand so.
-    ghost visits: { Self → VisitRules → StandingValue → Visit → Type 0 };
+    /// This may come of a turn that is taken by these rules, where the cases stand so.
+    ghost visits: { VisitRules → StandingValue → Visit → Type 0 };
 
-    /// This may come of a client to which this script is to be sent by these rules.
-    ghost scripts: { Self → ScriptRules → Case → Scripted → Type 0 };
+    /// Such a one may pass by.
+    ghost passes: { VisitRules → StandingValue → Passing → Type 0 };
 
-    /// Does what a client asks for.
-    fn visit<F: Write>(
-        &self,
-        alloc: Global,
-        client: &Self::Client,
-        rules: &VisitRules<'_>,
-        standing: &Standing,
+    /// They can be tested by these rules.
+    ghost are: { VisitRules → Self → Type 0 };
+
+    /// There is no turn by these rules, for this reason.
+    ghost none: { VisitRules → NoVisit → Self → Type 0 };
+
+    /// They can't be waited for any more.
+    ghost fails: { Self → Type 0 };
+
+    /// Takes the next turn, and tells of those who pass by.
+    fn next_visit<F: Write>(
+        &mut self,
+        round: Round<'_>,
         faults: &mut Watched<F>,
-    ) -> Result<Visit, NoMemory>
-        requires { CanBeVisited rules.now standing.now }
-        ensures visits { IfOk result (λ visit. visits self.now rules.now standing.now visit) }
-        ensures inside { IfOk result (λ visit. IsInside rules.now visit) }
-        ensures told { IfOk result (λ visit.
-            TellsEach (visit_notes rules.now visit) (watched F.contents faults.old faults.new)) }
-        ensures lacks { OnErr result (TellsSome rules.now (watched F.contents faults.old faults.new)) }
+    ) -> Result<Result<Visit, NoVisit>, LoopFault>
+        requires can { CanBeVisited round.rules.now round.standing.now }
+        requires are { are round.rules.now self.old }
+        ensures visits { IfOk result (λ taken. TakesNext (record { visits = visits; passes = passes })
+            (unmet_by none fails) round.entry.rules.now round.entry.standing.now taken
+            (watched F.contents faults.old faults.new)) }
+        ensures lacks { OnErr result (BreaksTurn (record { visits = visits; passes = passes }) round.entry.rules.now
+            round.entry.standing.now (watched F.contents faults.old faults.new)) }
+        ensures inside { IfOk result (λ taken. IfOk taken (λ visit. IsInside round.entry.rules.now visit)) }
+        ensures none { IfOk result (λ taken. IfErr taken (λ why. none round.entry.rules.now why self.new)) }
+        ensures stops { IfErr result (StopsFor (fails self.new)) }
+        ensures are { IfOk result (λ taken. are round.entry.rules.now self.new) }
         ensures still { StaysFailed faults.old faults.new };
 
-    /// Sends a script to a client, whatever it asks for.
-    fn script<O: Observer>(
-        &self,
-        alloc: Global,
-        client: &Self::Client,
-        rules: &ScriptRules<'_>,
-        case: &Case,
-        observer: &mut O,
-    ) -> Result<Scripted, O::Fault>
-        requires can { CanBeRun case.now }
-        requires known { AreOffers (protocols_known rules.now) }
-        requires hearing { IsHearing O.heard observer.old }
-        ensures scripts { IfOk result (λ scripted. scripts self.now rules.now case.now scripted) }
-        ensures told { IfOk result (λ scripted.
-            HearsProbe O.heard O.heard_all observer.old observer.new (scripted_probe scripted)) }
-        ensures borrow { O.borrow observer.new ≡ O.borrow observer.old };
+    /// No further turn is taken: those who are left are read to the end, for a while.
+    fn end(&mut self);
 }
 
-impl<N: Network, L: OpenListener + AsRawFd> TestedClients for ListenerClients<'_, N, L>
-where
-    L::Stream: Read + Write + OpenStream,
-{
-    ghost visits = { λ clients rules standing visit. IsVisitedSo rules standing visit };
+impl<L: Listener + Drop, P: Poller + Drop> TestedClients for Visitors<'_, Tester, L, P> {
+    ghost visits = { λ rules standing visit. Visits rules standing visit };
 
-    ghost scripts = { λ clients rules case scripted. IsScriptedSo rules case scripted };
+    ghost passes = { λ rules standing passing. Passes rules standing passing };
 
-    fn visit<F: Write>(
-        &self,
-        alloc: Global,
-        client: &RefCell<L::Stream>,
-        rules: &VisitRules<'_>,
-        standing: &Standing,
+    ghost are = { λ rules visitors. AreTestedBy rules visitors × AreHeld L.Client.did visitors };
+
+    ghost none = { λ rules why visitors. IsWhyNone L.did P.time rules why visitors };
+
+    ghost fails = { λ visitors. MayFail visitors };
+
+    fn next_visit<F: Write>(
+        &mut self,
+        round: Round<'_>,
         faults: &mut Watched<F>,
-    ) -> Result<Visit, NoMemory> {
-        let number = Cell::new(None);
-        let running = Running {
-            cases: rules.cases,
-            number: &number,
-        };
-        let pace = self.pace();
-        let teller = self.teller(alloc, running);
-        visit_over(alloc, client, &pace, teller, rules, standing, faults)
+    ) -> Result<Result<Visit, NoVisit>, LoopFault> {
+        take_next(round, self, faults)
     }
 
-    fn script<O: Observer>(
-        &self,
-        alloc: Global,
-        client: &RefCell<L::Stream>,
-        rules: &ScriptRules<'_>,
-        case: &Case,
-        observer: &mut O,
-    ) -> Result<Scripted, O::Fault> {
-        let number = Cell::new(Some(1));
-        let running = Running {
-            cases: slice::from_ref(case),
-            number: &number,
-        };
-        let pace = self.pace();
-        let teller = self.teller(alloc, running);
-        script_to(alloc, client, &pace, teller, rules, case, observer)
+    fn end(&mut self) {
+        let _ = self.end_all(&mut NoLines);
     }
-}
-
-/// Sends a script to a client over its stream, in its times, whose waits are told of.
-fn script_to<'a, S: Read + Write + OpenStream, N: Network, O: Observer>(
-    alloc: Global,
-    stream: &'a RefCell<S>,
-    pace: &'a Pace<'a, N>,
-    teller: WaitTeller<'a, N>,
-    rules: &ScriptRules<'_>,
-    case: &Case,
-    observer: &mut O,
-) -> Result<Scripted, O::Fault>
-    requires can { CanBeRun case.now }
-    requires known { AreOffers (protocols_known rules.now) }
-    requires hearing { IsHearing O.heard observer.old }
-    ensures scripts { IfOk result (λ scripted. IsScriptedSo rules.now case.now scripted) }
-    ensures told { IfOk result (λ scripted.
-        HearsProbe O.heard O.heard_all observer.old observer.new (scripted_probe scripted)) }
-    ensures borrow { O.borrow observer.new ≡ O.borrow observer.old }
-{
-    let reader = PatientReader::of(stream, pace, teller);
-    let writer = PatientWriter::of(stream, pace);
-    let mut connection = Connection::new(reader, writer, rules.budget);
-    let scripted = script_over(alloc, rules, case, &mut connection, observer)?;
-    Ok(scripted)
-}
-
-/// Does what a client asks for over its stream, in its times, whose waits are told of.
-fn visit_over<'a, S: Read + Write + OpenStream, N: Network, F: Write>(
-    alloc: Global,
-    stream: &'a RefCell<S>,
-    pace: &'a Pace<'a, N>,
-    teller: WaitTeller<'a, N>,
-    rules: &VisitRules<'_>,
-    standing: &Standing,
-    faults: &mut Watched<F>,
-) -> Result<Visit, NoMemory>
-    requires { CanBeVisited rules.now standing.now }
-    ensures visits { IfOk result (λ visit. IsVisitedSo rules.now standing.now visit) }
-    ensures inside { IfOk result (λ visit. IsInside rules.now visit) }
-    ensures told { IfOk result (λ visit.
-        TellsEach (visit_notes rules.now visit) (watched F.contents faults.old faults.new)) }
-    ensures lacks { OnErr result (TellsSome rules.now (watched F.contents faults.old faults.new)) }
-    ensures still { StaysFailed faults.old faults.new }
-{
-    let number = teller.number();
-    let reader = PatientReader::of(stream, pace, teller);
-    let writer = PatientWriter::of(stream, pace);
-    let mut connection = Connection::new(reader, writer, rules.budget);
-    let visit = visit_client(alloc, rules, standing, number, &mut connection, faults)?;
-    Ok(visit)
 }

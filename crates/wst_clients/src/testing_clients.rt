@@ -1,7 +1,7 @@
-//! Clients under test, one after the other: what each asks for is done, the line of each case that was run is written
-//! as it ends, and at the end those of the cases that none has asked for, and what stands behind all of them.
+//! Clients under test, turn by turn: what each asks for is done, the line of each case that was run is written as it
+//! ends, and at the end those of the cases that none has asked for, and what stands behind all of them.
 
-ghost use Rattle.std.specs.Prelude.{◌≡◌, ◌<◌, ◌^◌, ◌++◌, IfOk, [], false, length, string_bytes};
+ghost use Rattle.std.specs.Prelude.{◌≡◌, ◌<◌, ◌^◌, ◌++◌, IfErr, IfOk, OnErr, false, length, string_bytes};
 ghost use Rattle.std.specs.List.{All};
 ghost use Rattle.ws_frame.specs.Devices.{watched};
 ghost use Rattle.ws_frame.specs.Watching.{has_failed};
@@ -9,33 +9,34 @@ ghost use Rattle.ws_paths.specs.Standings.{none_run};
 ghost use Rattle.ws_scripts.specs.Scripts.{CanBeRun};
 ghost use Rattle.ws_upgrade.specs.Protocols.{AreOffers};
 ghost use Rattle.wst_commands.specs.Devices.{StaysFailed};
-ghost use Rattle.wst_clients.specs.ClientTests.{AddsLastLines, AddsNotRun, FitsCases, RunsVisits, TestsClients};
-ghost use Rattle.wst_clients.specs.ClientTests.{WritesEnough};
+ghost use Rattle.wst_clients.specs.ClientTests.{AddsLastLines, AddsNotRun, ComesNext, FitsCases, IsFaultFor};
+ghost use Rattle.wst_clients.specs.ClientTests.{TellsOfTurn, IsVisitFault, IsWorking, RunsVisits, TellsEndOf};
+ghost use Rattle.wst_clients.specs.ClientTests.{TestsClients, WritesEnough};
 ghost use Rattle.wst_testing.specs.Outcomes.{count_in};
-ghost use Rattle.wst_clients.specs.VisitOutcomes.{ComesTo, HasRoomToCount, not_run_if};
+ghost use Rattle.wst_clients.specs.VisitOutcomes.{HasRoomToCount, not_run_if};
 ghost use Rattle.wst_clients.specs.ClientLines.{lines_for, score_with_all};
-ghost use Rattle.wst_clients.specs.Visits.{known_by};
+ghost use Rattle.wst_clients.specs.Visits.{AreFailing, BreaksTurn, CanBeVisited, known_by, unmet_by};
 ghost use Rattle.wst_clients.specs.declared.testing_clients.VisitsEnd.TheVariants.{Ended};
 
 use crate::client_lines::{behind_for, end_for, tell_beside_for};
 use crate::late_clients::tell_late;
 use crate::tested_clients::TestedClients;
 use crate::visit_outcome::{
-    ends_with, keep_outcome, outcome_of_client, report_counted, report_outcome,
+    VisitOutcome, ends_with, keep_outcome, outcome_of_visit, report_counted, report_outcome,
 };
-use crate::visiting::{Telling, VisitRules};
+use crate::visiting::{NoVisit, Round, Telling, Visit, VisitRules};
 use std::alloc::Global;
 use std::io::Write;
 use ws_base::NoMemory;
 use ws_frame::Watched;
+use ws_loops::LoopFault;
 use ws_paths::{Behavior, Standing};
 use ws_suite::Case;
-use wst_commands::{Exit, Fault, deliver};
-use wst_sockets::NoClient;
+use wst_commands::{Exit, Fault, ListenFault, deliver};
 use wst_testing::{Outcome, Score};
 
-/// At most so many connections are taken: more than can come.
-pub(crate) const MAX_VISITS: u64 = 1 << 62;
+/// At most so many turns are taken: more than can come.
+const MAX_VISITS: u64 = 1 << 62;
 
 /// How the taking of connections ended.
 #[derive(Drop)]
@@ -48,13 +49,13 @@ pub enum VisitsEnd {
     Stopped,
 }
 
-/// Takes connections, one after the other, until one ends the run, or none comes in time. Writes a line for each case
-/// that was run as it ends, then one for each case that was not run, and what stands behind all cases last. A line that
-/// can't be written ends the run, and so does a listener that takes no connection any more. Behind enough failures
-/// stands the total of what was run.
+/// Takes the turns of those who come, one after the other, until one ends the run, or nobody asks in time. Writes a
+/// line for each case that was run as it ends, then one for each case that was not run, and what stands behind all
+/// cases last. A line that can't be written ends the run, and so does a listener that takes no client any more. Behind
+/// enough failures stands the total of what was run. Those who are left are read to the end, for a while.
 pub fn test_clients<C: TestedClients, W: Write, F: Write>(
     alloc: Global,
-    clients: &C,
+    clients: &mut C,
     rules: &VisitRules<'_>,
     writer: &mut Watched<W>,
     faults: &mut Watched<F>,
@@ -62,11 +63,34 @@ pub fn test_clients<C: TestedClients, W: Write, F: Write>(
     requires works { has_failed writer.old ≡ false }
     requires can { All CanBeRun rules.now.cases.now }
     requires known { AreOffers (known_by rules.now) }
-    ensures tests { TestsClients (C.may_be_late clients.now) (ComesTo (C.visits clients.now rules.now) rules.now)
-        rules.now result (watched W.contents writer.old writer.new) (watched F.contents faults.old faults.new) }
+    requires are { C.are rules.now clients.old }
+    ensures tests { TestsClients (record { visits = C.visits; passes = C.passes }) (unmet_by C.none C.fails) rules.now
+        result (watched W.contents writer.old writer.new) (watched F.contents faults.old faults.new) }
     ensures still { StaysFailed faults.old faults.new }
 {
-    match run_visits(alloc, clients, rules, writer, faults)? {
+    let ended = run_visits(alloc, clients, rules, writer, faults);
+    let told = tell_end(alloc, rules, ended, writer, faults);
+    clients.end();
+    told
+}
+
+/// Writes what stands behind the turns, where they have ended so.
+fn tell_end<W: Write, F: Write>(
+    alloc: Global,
+    rules: &VisitRules<'_>,
+    ended: Result<VisitsEnd, Fault>,
+    writer: &mut Watched<W>,
+    faults: &mut Watched<F>,
+) -> Result<Exit, Fault>
+    requires works { IsWorking ended (has_failed writer.old) }
+    requires can { All CanBeRun rules.now.cases.now }
+    requires fits { IfOk ended (FitsCases (length rules.now.cases.now)) }
+    ensures tells { TellsEndOf rules.now ended result (writer.new ≡ writer.old) (faults.new ≡ faults.old)
+        (watched W.contents writer.old writer.new) (watched F.contents faults.old faults.new) }
+    ensures still { StaysFailed faults.old faults.new }
+{
+    let end = ended?;
+    match end {
         VisitsEnd::Ended(standing, mut score) => {
             let (lines, behind) = last_lines(alloc, rules, &standing, &mut score)?;
             let exit = deliver(score.exit(), lines.as_bytes(), writer);
@@ -78,11 +102,11 @@ pub fn test_clients<C: TestedClients, W: Write, F: Write>(
     }
 }
 
-/// Takes connections, one after the other, until one ends the run or none comes in time, which is told, and writes a
-/// line for each case that was run.
+/// Takes the turns of those who come, one after the other, until one ends the run or nobody asks in time, which is
+/// told, and writes a line for each case that was run.
 fn run_visits<C: TestedClients, W: Write, F: Write>(
     alloc: Global,
-    clients: &C,
+    clients: &mut C,
     rules: &VisitRules<'_>,
     writer: &mut Watched<W>,
     faults: &mut Watched<F>,
@@ -90,7 +114,8 @@ fn run_visits<C: TestedClients, W: Write, F: Write>(
     requires works { has_failed writer.old ≡ false }
     requires can { All CanBeRun rules.now.cases.now }
     requires known { AreOffers (known_by rules.now) }
-    ensures runs { RunsVisits (C.may_be_late clients.now) (ComesTo (C.visits clients.now rules.now) rules.now) rules.now
+    requires are { C.are rules.now clients.old }
+    ensures runs { RunsVisits (record { visits = C.visits; passes = C.passes }) (unmet_by C.none C.fails) rules.now
         result (watched W.contents writer.old writer.new) (watched F.contents faults.old faults.new) }
     ensures fits { IfOk result (FitsCases (length rules.now.cases.now)) }
     ensures still { StaysFailed faults.old faults.new }
@@ -100,19 +125,22 @@ fn run_visits<C: TestedClients, W: Write, F: Write>(
     let mut visited = 0;
     while visited < MAX_VISITS {
         visited += 1;
-        let client = match clients.next_client(alloc) {
-            Ok(client) => client,
-            Err(NoClient::TooLate) => {
+        let round = Round {
+            alloc,
+            rules: &*rules,
+            standing: &standing,
+        };
+        let came = next_outcome(round, clients, faults)?;
+        let outcome = match came {
+            Ok(outcome) => outcome,
+            Err(NoVisit::TooLate) => {
                 tell_late(alloc, rules.wait, rules.cases, &standing, faults)?;
                 return Ok(VisitsEnd::Ended(standing, score));
             }
-            Err(NoClient::Never) => return Ok(VisitsEnd::Stopped),
+            Err(NoVisit::Never) => return Ok(VisitsEnd::Stopped),
         };
-        let outcome = outcome_of_client(alloc, clients, &client, rules, &standing, faults)?;
-        let client = clients.half_close(client);
         let text = report_outcome(alloc, rules, &outcome, &mut score)?;
         deliver(Exit::Done, text.as_bytes(), writer);
-        clients.leave(client);
         if writer.failed() {
             return Ok(VisitsEnd::Stopped);
         }
@@ -124,7 +152,59 @@ fn run_visits<C: TestedClients, W: Write, F: Write>(
             return Ok(VisitsEnd::Ended(standing, score));
         }
     }
-    Ok(VisitsEnd::Stopped)
+    Err(Fault::NoMemory)
+}
+
+/// What is told of the next turn, or why there is none.
+fn next_outcome<C: TestedClients, F: Write>(
+    round: Round<'_>,
+    clients: &mut C,
+    faults: &mut Watched<F>,
+) -> Result<Result<VisitOutcome, NoVisit>, Fault>
+    requires can { CanBeVisited round.rules.now round.standing.now }
+    requires are { C.are round.rules.now clients.old }
+    ensures comes { IfOk result (λ came. ComesNext (record { visits = C.visits; passes = C.passes })
+        (unmet_by C.none C.fails) round.entry.rules.now round.entry.standing.now came
+        (watched F.contents faults.old faults.new)) }
+    ensures lacks { OnErr result (BreaksTurn (record { visits = C.visits; passes = C.passes }) round.entry.rules.now
+        round.entry.standing.now (watched F.contents faults.old faults.new)) }
+    ensures stops { IfErr result (IsVisitFault (AreFailing C.fails)) }
+    ensures are { IfOk result (λ came. C.are round.entry.rules.now clients.new) }
+    ensures still { StaysFailed faults.old faults.new }
+{
+    match clients.next_visit(round, faults) {
+        Ok(taken) => {
+            let came = outcome_of_taken(round, taken)?;
+            Ok(came)
+        }
+        Err(why) => Err(fault_of(why)),
+    }
+}
+
+/// What is told of the turn that was taken, or why none was.
+fn outcome_of_taken(
+    round: Round<'_>,
+    taken: Result<Visit, NoVisit>,
+) -> Result<Result<VisitOutcome, NoVisit>, NoMemory>
+    ensures { IfOk result (TellsOfTurn round.entry.rules.now taken) }
+{
+    match taken {
+        Ok(visit) => {
+            let outcome = outcome_of_visit(round.alloc, round.rules, visit)?;
+            Ok(Ok(outcome))
+        }
+        Err(why) => Ok(Err(why)),
+    }
+}
+
+/// What ends a run over clients, where a loop has stopped so.
+pub(crate) fn fault_of(why: LoopFault) -> Fault
+    ensures { IsFaultFor why result }
+{
+    match why {
+        LoopFault::NoMemory => Fault::NoMemory,
+        LoopFault::WaitFailed | LoopFault::NoOutput => Fault::NotListening(ListenFault::Failed),
+    }
 }
 
 /// Writes what stands behind the cases of a run that failures have ended, which came to this.

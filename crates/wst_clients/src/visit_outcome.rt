@@ -2,81 +2,50 @@
 
 ghost use Rattle.std.specs.Prelude.{◌≡◌, [], ◌∷◌, IfOk, MatchOption, OnErr, OnOk, length, string_bytes};
 ghost use Rattle.std.specs.List.{All};
-ghost use Rattle.ws_frame.specs.Devices.{watched};
 ghost use Rattle.ws_scripts.specs.Scripts.{CanBeRun};
-ghost use Rattle.wst_commands.specs.Devices.{StaysFailed};
-ghost use Rattle.wst_testing.specs.Notes.{TellsEach};
-ghost use Rattle.wst_clients.specs.VisitOutcomes.{AsksInside, ComesTo, IsVisitOutcome, after_outcome, behavior_for};
-ghost use Rattle.wst_clients.specs.VisitOutcomes.{HasRoomToCount, ends_with_outcome, outcome_notes, tests_in};
-ghost use Rattle.wst_clients.specs.Visits.{CanBeVisited, TellsSome};
+ghost use Rattle.wst_clients.specs.VisitOutcomes.{AsksInside, IsVisitOutcome, after_outcome, behavior_for};
+ghost use Rattle.wst_clients.specs.VisitOutcomes.{HasRoomToCount, ends_with_outcome, tests_in};
 ghost use Rattle.wst_testing.specs.Reporting.{score_by};
 ghost use Rattle.wst_clients.specs.ClientLines.{line_for, lines_for, score_of_case, score_with_all};
 
 use crate::client_lines::line_for;
-use crate::tested_clients::TestedClients;
 use crate::visiting::{Telling, Visit, VisitRules, case_for};
 use std::alloc::Global;
-use std::io::Write;
 use ws_base::NoMemory;
-use ws_frame::{DataStyle, Watched};
 use ws_paths::{Behavior, Purpose, Standing};
-use ws_suite::{Case, Expectation, Verdict};
-use ws_upgrade::HeadFault;
+use ws_suite::{Case, Verdict};
 use ws_wire::Role;
 use wst_commands::judgement_of;
 use wst_testing::{Outcome, Reported, Score};
 
-/// What is told of a connection of a client under test.
+/// What is told of a turn.
 #[derive(Drop)]
 pub enum VisitOutcome {
-    /// There was no whole request, or it could not be answered.
-    Lost,
-    /// The request was refused.
-    Refused(HeadFault),
-    /// It was told what it has asked for, and no case was run.
-    Told(Purpose),
-    /// The case was run that it has asked for, and this is told of the client in it.
+    /// The end of the run was asked for, and that was answered.
+    Over,
+    /// The case was run that was asked for, and this is told of the client in it.
     Ran(Purpose, Outcome),
 }
 
-/// Does what a client asks for, and answers what is told of it.
-pub(crate) fn outcome_of_client<C: TestedClients, F: Write>(
-    alloc: Global,
-    clients: &C,
-    client: &C::Client,
-    rules: &VisitRules<'_>,
-    standing: &Standing,
-    faults: &mut Watched<F>,
-) -> Result<VisitOutcome, NoMemory>
-    requires { CanBeVisited rules.now standing.now }
-    ensures comes { IfOk result (λ outcome.
-        ComesTo (C.visits clients.now rules.now) rules.now standing.now outcome) }
-    ensures told { IfOk result (λ outcome.
-        TellsEach (outcome_notes rules.now outcome) (watched F.contents faults.old faults.new)) }
-    ensures lacks { OnErr result (TellsSome rules.now (watched F.contents faults.old faults.new)) }
-    ensures still { StaysFailed faults.old faults.new }
-{
-    let visit = clients.visit(alloc, client, rules, standing, faults)?;
-    let outcome = outcome_of_visit(alloc, rules.explains, rules.expected, visit)?;
-    Ok(outcome)
-}
-
-/// What is told of it.
+/// What is told of what a turn came to.
 #[tactic(auto, using(crate::proofs::VisitLemmas::ran_told))]
-fn outcome_of_visit(
+pub(crate) fn outcome_of_visit(
     alloc: Global,
-    explains: Option<DataStyle>,
-    expected: Expectation,
+    rules: &VisitRules<'_>,
     visit: Visit,
 ) -> Result<VisitOutcome, NoMemory>
-    ensures { IfOk result (λ outcome. IsVisitOutcome explains expected visit outcome) }
+    ensures { IfOk result (λ outcome. IsVisitOutcome rules.now.explains rules.now.expected visit outcome) }
 {
     match visit {
-        Visit::Lost => Ok(VisitOutcome::Lost),
-        Visit::Refused(fault) => Ok(VisitOutcome::Refused(fault)),
-        Visit::Told(purpose) => Ok(VisitOutcome::Told(purpose)),
+        Visit::Over => Ok(VisitOutcome::Over),
         Visit::Ran(purpose, transcript) => {
-            let told = judgement_of(alloc, explains, Role::Client, expected, &transcript)?;
+            let told = judgement_of(
+                alloc,
+                rules.explains,
+                Role::Client,
+                rules.expected,
+                &transcript,
+            )?;
             Ok(VisitOutcome::Ran(purpose, Outcome::Judged(told)))
         }
     }
@@ -94,7 +63,7 @@ fn test_in<'a>(rules: &VisitRules<'a>, outcome: &'a VisitOutcome) -> Option<(&'a
             Some(case) => Some((case, told)),
             None => None,
         },
-        VisitOutcome::Lost | VisitOutcome::Refused(_) | VisitOutcome::Told(_) => None,
+        VisitOutcome::Over => None,
     }
 }
 
@@ -171,9 +140,7 @@ pub(crate) fn ends_with(standing: &Standing, outcome: &VisitOutcome) -> bool
     ensures { result ≡ ends_with_outcome (length standing.now.behaviors) outcome.now }
 {
     match outcome {
-        VisitOutcome::Told(purpose) | VisitOutcome::Ran(purpose, _) => {
-            standing.ends_with(*purpose)
-        }
-        VisitOutcome::Lost | VisitOutcome::Refused(_) => false,
+        VisitOutcome::Ran(purpose, _) => standing.ends_with(*purpose),
+        VisitOutcome::Over => true,
     }
 }

@@ -1,8 +1,9 @@
-//! What gives a network for one connection, and how a stream of it has ended.
+//! What gives a network, and how a stream of it has ended.
 
 use std::alloc::Global;
 use std::io;
 use std::io::ErrorKind;
+use std::net::SocketAddr;
 use ws_loops::{NonBlocking, Poller};
 use ws_networks::Network;
 
@@ -32,12 +33,12 @@ pub enum ConnectMiss {
     NotTaken(ErrorKind),
 }
 
-/// It gives a network for one connection, and what waits for that.
+/// It gives a network, and what waits for its streams.
 pub trait Connector {
     /// A connection of the network.
     type Stream: EndingStream + Drop;
 
-    type Network: Network<Stream = Self::Stream, Miss = ConnectMiss> + Drop;
+    type Network: Network<Address = SocketAddr, Stream = Self::Stream, Miss = ConnectMiss> + Drop;
 
     type Poller: Poller + Drop;
 

@@ -1,5 +1,5 @@
 -- Clients under test that come to an address of a network.
-use Rattle.std.specs.Prelude.{◌≡◌, ◌⊎◌, ℕ, Bool, true, false, IsTrue, List, [], ◌∷◌, Option, None, Some, Result, Ok}
+use Rattle.std.specs.Prelude.{◌≡◌, ◌⊎◌, ⊤, ℕ, Bool, true, false, IsTrue, List, [], ◌∷◌, Option, None, Some, Result, Ok}
 use Rattle.std.specs.Prelude.{Err}
 use Rattle.ws_base.specs.declared.text_fault.TextFault.{TextFault}
 use Rattle.ws_base.specs.declared.text_fault.TextFault.TheVariants as text_fault
@@ -21,7 +21,6 @@ use Rattle.wst_commands.specs.Faults.{Ends}
 use Rattle.wst_commands.specs.ReadingWhole.{ReadsAll, StopsReading, stopped}
 use Rattle.wst_commands.specs.StepDamages.{step_damage}
 use Rattle.wst_commands.specs.TimeLimits.{is_limited}
-use Rattle.wst_commands.specs.declared.time_limit.TimeLimit.{TimeLimit}
 use Rattle.wst_commands.specs.declared.exit.Exit.{Exit}
 use Rattle.wst_commands.specs.declared.exit.Exit.TheVariants.{Done, Failed}
 use Rattle.wst_commands.specs.declared.fault.Fault.{Fault}
@@ -29,17 +28,21 @@ use Rattle.wst_commands.specs.declared.fault.Fault.TheVariants.{NoMemory, NotASt
 use Rattle.wst_commands.specs.declared.fault.ListenFault.{ListenFault}
 use Rattle.wst_commands.specs.declared.reading_whole.ReadStop.{ReadStop}
 use Rattle.wst_clients.specs.ClientCaptures.{CapturesClient, client_capture}
-use Rattle.wst_clients.specs.ClientSends.{IsScriptedSo, ScriptsClient, protocols_known}
-use Rattle.wst_clients.specs.ClientTests.{DocumentsClients, TestsClients}
+use Rattle.wst_clients.specs.ClientSends.{ScriptsClient}
+use Rattle.wst_clients.specs.ClientTests.{DocumentsClients, IsVisitFault, TestsClients}
 use Rattle.wst_testing.specs.Hints.{MissesEcho, missed_echo_notes}
 use Rattle.wst_testing.specs.LineWriting.{HasWrittenRun}
 use Rattle.wst_sockets.specs.Listening.{IsToldFor}
 use Rattle.wst_testing.specs.Notes.{TellsEach}
 use Rattle.wst_sockets.specs.Serve.{listening_line}
-use Rattle.wst_clients.specs.VisitOutcomes.{ComesTo}
-use Rattle.wst_clients.specs.Visits.{IsVisitedSo, known_by}
+use Rattle.wst_clients.specs.Turns.{met_clients}
+use Rattle.wst_clients.specs.Visits.{Unmet, known_by}
+use Rattle.wst_clients.specs.declared.visiting.NoVisit.{NoVisit}
+use Rattle.wst_clients.specs.declared.visiting.NoVisit.TheVariants.{Never, TooLate}
+use Rattle.wst_run.specs.declared.clients_at.ClientJob.{ClientJob}
+use Rattle.wst_run.specs.declared.clients_at.ClientJob.TheVariants.{Capture, Document, Lines}
 use Rattle.wst_run.specs.declared.send.SendPlan.{SendPlan}
-use Rattle.wst_clients.specs.declared.scripting.ScriptRules.{ScriptRules}
+use Rattle.wst_clients.specs.declared.sending_to_client.ScriptRules.{ScriptRules}
 use Rattle.wst_run.specs.declared.test.TestPlan.{TestPlan}
 use Rattle.wst_clients.specs.declared.visiting.Telling.{Telling}
 use Rattle.wst_clients.specs.declared.visiting.Telling.TheVariants.{Cases, Scripts}
@@ -65,11 +68,7 @@ NotesBefore address Runs faults = (first : Device) × GoesBefore first faults
 abbrev pub NotesCodes : List ℕ → Device → Type 0
 NotesCodes script faults = (notes : List ℕ) × HasCodeNotes script notes × Tells notes faults
 
--- a client may be waited for in vain: there is a limit
-abbrev pub MayBeLate : TimeLimit → Type 0
-MayBeLate wait = IsTrue (is_limited wait)
-
--- ---- tests. A client to come is waited for so long.
+-- ---- tests
 
 -- cases are told of as this report has them
 abbrev pub TellsBy : ReportValue → Telling → Type 0
@@ -94,56 +93,58 @@ abbrev pub StopsAtFirstLine : List ℕ → Result Exit Fault → Device → Devi
 StopsAtFirstLine address ended output faults = (ended ≡ Ok Failed) × (output.failed ≡ true)
     × HasBegun (listening_line address) output × IsUntouched faults
 
--- nothing was written or told: nothing can be listened at, or memory ran out; that it is so is not said
+-- nothing can be listened at, or memory ran out; that it is so is not said
+abbrev pub CanNotListen : Fault → Type 0
+CanNotListen fault = ((why : ListenFault) × (fault ≡ NotListening why)) ⊎ (fault ≡ NoMemory)
+
+-- so nothing was written or told
 abbrev pub TestsNone : Result Exit Fault → Device → Device → Type 0
-TestsNone ended output faults = (((why : ListenFault) × (ended ≡ Err (NotListening why))) ⊎ (ended ≡ Err NoMemory))
+TestsNone ended output faults = ((fault : Fault) × CanNotListen fault × (ended ≡ Err fault))
     × IsUntouched output × IsUntouched faults
 
--- It is told on the output at which address is listened, and clients are tested; or that line could not be written, or
--- nothing was.
-abbrev pub TestsBehind : TimeLimit → List ℕ → VisitRules → Result Exit Fault → Device → Device → Type 0
-TestsBehind wait address rules ended output faults =
+-- what is known of an address where nobody is met: a request may be waited for in vain
+abbrev pub unmet_there : VisitRules → NoVisit → Type 0
+unmet_there rules TooLate = IsTrue (is_limited rules.wait)
+unmet_there rules Never = ⊤
+
+abbrev pub unmet_at : Unmet
+unmet_at = record { none = unmet_there; fails = ⊤ }
+
+-- a capture is of one case
+abbrev pub IsJobFor : ClientJob → VisitRules → Type 0
+IsJobFor Capture rules = (case : Case) × (rules.cases.now ≡ case ∷ [])
+IsJobFor (Document document) rules = ⊤
+IsJobFor Lines rules = ⊤
+
+-- It is told at which address is listened, on the fault output where a capture or a document is written of the clients,
+-- else on the output, and they are tested; or that line could not be written, or memory ran out for it.
+abbrev pub VisitsTold : Unmet → List ℕ → ClientJob → VisitRules → Result Exit Fault → Device → Device → Type 0
+VisitsTold n address Capture rules ended output faults = ((case : Case) × (rules.cases.now ≡ case ∷ [])
+    × NotesBefore address (λ behind. CapturesClient met_clients n rules case ended output behind) faults)
+    ⊎ TestsNone ended output faults
+VisitsTold n address (Document document) rules ended output faults = NotesBefore address
+    (λ behind. DocumentsClients met_clients n rules document.target.now document.report.now ended output behind) faults
+    ⊎ TestsNone ended output faults
+VisitsTold n address Lines rules ended output faults =
     ((told : Option (List ℕ)) × HasWritten (listening_line address) (record output { new = told })
-    × TestsClients (MayBeLate wait) (ComesTo (IsVisitedSo rules) rules) rules ended (record output { old = told })
-    faults)
+    × TestsClients met_clients n rules ended (record output { old = told }) faults)
     ⊎ StopsAtFirstLine address ended output faults ⊎ TestsNone ended output faults
 
--- the address is told on the fault output, and one client is captured
-abbrev pub CapturesTold : TimeLimit → List ℕ → TestPlan → VisitRules → Result Exit Fault → Device → Device → Type 0
-CapturesTold wait address plan rules ended output faults = (case : Case) × (plan.cases.items ≡ case ∷ [])
-    × NotesBefore address
-    (λ behind. CapturesClient (MayBeLate wait) (IsVisitedSo rules) rules case ended output behind) faults
+-- what is told of the address is told, and clients are tested so; or nothing is told
+abbrev pub VisitsAt : List ℕ → ClientJob → VisitRules → Result Exit Fault → Device → Device → Type 0
+VisitsAt address job rules ended output faults = ((told : List ℕ) × IsToldFor address told
+    × VisitsTold unmet_at told job rules ended output faults) ⊎ TestsNone ended output faults
 
--- the address is told on the fault output, and a document is written of the clients
-abbrev pub DocumentsTold : TimeLimit → List ℕ → TestPlan → ReportValue → VisitRules → Result Exit Fault → Device →
-    Device → Type 0
-DocumentsTold wait address plan report rules ended output faults = NotesBefore address
-    (λ behind. DocumentsClients (MayBeLate wait) (ComesTo (IsVisitedSo rules) rules) rules plan.target.now report ended
-    output behind) faults
+-- what is written of the clients of a plan: their capture, a document, or lines
+abbrev pub IsJobOf : TestPlan → ReportValue → ClientJob → Type 0
+IsJobOf plan report Capture = plan.capture ≡ true
+IsJobOf plan report (Document document) = (plan.capture ≡ false) × (report.is_junit ≡ true)
+    × (document.target.now ≡ plan.target.now) × (document.report.now ≡ report)
+IsJobOf plan report Lines = (plan.capture ≡ false) × (report.is_junit ≡ false)
 
--- so, or nothing was written or told
-abbrev pub CapturesOrNone : TimeLimit → List ℕ → TestPlan → VisitRules → Result Exit Fault → Device → Device → Type 0
-CapturesOrNone wait address plan rules ended output faults =
-    CapturesTold wait address plan rules ended output faults ⊎ TestsNone ended output faults
-
-abbrev pub DocumentsOrNone : TimeLimit → List ℕ → TestPlan → ReportValue → VisitRules → Result Exit Fault → Device →
-    Device → Type 0
-DocumentsOrNone wait address plan report rules ended output faults =
-    DocumentsTold wait address plan report rules ended output faults ⊎ TestsNone ended output faults
-
--- so clients are tested; or they are captured, or a document is written of them, as is asked for
-abbrev pub TestsToldAt : TimeLimit → List ℕ → TestPlan → ReportValue → Result Exit Fault → Device → Device → Type 0
-TestsToldAt wait address plan report ended output faults = (rules : VisitRules) × AreRulesOf plan report rules
-    × (((plan.capture ≡ true) × CapturesOrNone wait address plan rules ended output faults)
-    ⊎ ((plan.capture ≡ false)
-    × (((report.is_junit ≡ true) × DocumentsOrNone wait address plan report rules ended output faults)
-    ⊎ ((report.is_junit ≡ false) × TestsBehind wait address rules ended output faults))))
-
--- what is told of the address is told, and then clients are tested; or nothing is
 abbrev pub TestsAt : List ℕ → TestPlan → ReportValue → Result Exit Fault → Device → Device → Type 0
-TestsAt address plan report ended output faults =
-    ((told : List ℕ) × IsToldFor address told × TestsToldAt plan.run.wait told plan report ended output faults)
-    ⊎ TestsNone ended output faults
+TestsAt address plan report ended output faults = (rules : VisitRules) × AreRulesOf plan report rules
+    × ((job : ClientJob) × IsJobOf plan report job × VisitsAt address job rules ended output faults)
 
 -- and how that ended is told behind what was told before
 abbrev pub TestsClientsAt : List ℕ → TestPlan → ReportValue → Exit → Device → Device → Type 0
@@ -153,8 +154,8 @@ TestsClientsAt address plan report exit output faults =
 -- ---- a script that is sent
 
 -- these are the rules of a plan
-pub record AreScriptRulesOf (plan : SendPlan) (rules : ScriptRules) : Type 0 where
-  pub protocols : protocols_known rules ≡ plan.run.protocols
+pub record AreScriptRulesOf (plan : SendPlan) (given : Case) (rules : ScriptRules) : Type 0 where
+  pub case : rules.case.now ≡ given
   pub budget : rules.budget ≡ plan.run.budget
   pub has_timeouts : rules.has_timeouts ≡ is_limited plan.run.timeout
   pub expected : rules.expected ≡ plan.run.expected
@@ -181,41 +182,39 @@ HintsBehind false expected transcript Runs faults = (missed : Bool) × MayTellMi
     × ((first : Device) × GoesBefore first faults × Runs first
     × TellsEach (missed_echo_notes missed) (record faults { old = first.new }))
 
+-- the script of a plan was sent so: where none can come any more, that is the word of the listener
+abbrev pub ScriptsPlan : Type 0 → SendPlan → Case → Option Transcript → Device → Type 0
+ScriptsPlan Nobody plan case sent faults = (rules : ScriptRules) × AreScriptRulesOf plan case rules
+    × ScriptsClient (IsTrue (is_limited plan.run.wait)) Nobody plan.run.protocols rules sent faults
+
 -- a write failed: of a capture, where one is asked for, a beginning was written; of lines it is not said what was
-abbrev pub BreaksClientRun : TimeLimit → SendPlan → Case → Device → Device → Type 0
-BreaksClientRun wait plan case output faults = (output.failed ≡ true) × ((plan.capture ≡ true) → (rules : ScriptRules)
-    × AreScriptRulesOf plan rules × ((transcript : Transcript)
-    × ScriptsClient (MayBeLate wait) (IsScriptedSo rules) case (Some transcript) faults
-    × HasBegun (written_capture2 (client_capture transcript)) output))
+abbrev pub BreaksClientRun : Type 0 → SendPlan → Case → Device → Device → Type 0
+BreaksClientRun Nobody plan case output faults = (output.failed ≡ true) × ((plan.capture ≡ true)
+    → (transcript : Transcript) × ScriptsPlan Nobody plan case (Some transcript) faults
+    × HasBegun (written_capture2 (client_capture transcript)) output)
 
 -- inside: it was told
 abbrev pub HintsClient : Expectation → Transcript → Device → Type 0
 HintsClient expected transcript faults = (missed : Bool) × MayTellMissed expected Client transcript missed
     × TellsEach (missed_echo_notes missed) faults
 
--- the script was run over no connection that came, which were told of so, and nothing was written
-abbrev pub SendsToNone : TimeLimit → SendPlan → Case → Device → Device → Type 0
-SendsToNone wait plan case output faults = (rules : ScriptRules) × AreScriptRulesOf plan rules
-    × ScriptsClient (MayBeLate wait) (IsScriptedSo rules) case None faults × IsUntouched output
-
--- The script was run over a connection, and that was written; or a write failed, or no connection came in time or can
--- be taken any more; or memory ran out, and nothing was written of a capture.
-abbrev pub SendsScript : TimeLimit → SendPlan → Case → Result Exit Fault → Device → Device → Type 0
-SendsScript wait plan case (Ok Done) output faults = (rules : ScriptRules) × AreScriptRulesOf plan rules
-    × ((transcript : Transcript)
-    × HintsBehind plan.capture plan.run.expected transcript
-    (λ first. ScriptsClient (MayBeLate wait) (IsScriptedSo rules) case (Some transcript) first) faults
-    × WritesClientRun plan.style plan.capture transcript output)
-SendsScript wait plan case (Ok Failed) output faults =
-    BreaksClientRun wait plan case output faults ⊎ SendsToNone wait plan case output faults
-SendsScript wait plan case (Ok other) output faults = ⊥
-SendsScript wait plan case (Err fault) output faults = (fault ≡ NoMemory) × ((plan.capture ≡ true) → IsUntouched output)
+-- The script was run over a client, and that was written; or a write failed, or none came in time or can come any
+-- more; or memory ran out, or nothing could be waited for, and nothing was written of a capture.
+abbrev pub SendsScript : Type 0 → SendPlan → Case → Result Exit Fault → Device → Device → Type 0
+SendsScript Nobody plan case (Ok Done) output faults = (transcript : Transcript)
+    × HintsBehind plan.capture plan.run.expected transcript (ScriptsPlan Nobody plan case (Some transcript)) faults
+    × WritesClientRun plan.style plan.capture transcript output
+SendsScript Nobody plan case (Ok Failed) output faults = BreaksClientRun Nobody plan case output faults
+    ⊎ (ScriptsPlan Nobody plan case None faults × IsUntouched output)
+SendsScript Nobody plan case (Ok other) output faults = ⊥
+SendsScript Nobody plan case (Err fault) output faults = IsVisitFault ⊤ fault
+    × ((plan.capture ≡ true) → IsUntouched output)
 
 -- It is told at which address is listened, and the script is sent; or nothing can be listened at, or memory ran out.
 abbrev pub SendsAt : List ℕ → SendPlan → Case → Result Exit Fault → Device → Device → Type 0
 SendsAt address plan case ended output faults =
     ((told : List ℕ) × IsToldFor address told
-    × NotesBefore told (λ behind. SendsScript plan.run.wait plan case ended output behind) faults)
+    × NotesBefore told (λ behind. SendsScript ⊤ plan case ended output behind) faults)
     ⊎ TestsNone ended output faults
 
 -- what stops a text that is damaged at this line: what is wrong there is told, or memory ran out for it

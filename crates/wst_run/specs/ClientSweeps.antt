@@ -9,8 +9,8 @@ use Rattle.ws_sweep.specs.Telling.{steps_text}
 use Rattle.wst_commands.specs.TimeLimits.{is_limited}
 use Rattle.wst_commands.specs.declared.exit.Exit.{Exit}
 use Rattle.wst_commands.specs.declared.fault.Fault.{Fault}
-use Rattle.wst_run.specs.ClientRuns.{EndsBehind, TestsBehind, TestsNone}
-use Rattle.wst_sockets.specs.Listening.{IsToldFor}
+use Rattle.wst_run.specs.ClientRuns.{EndsBehind, TestsNone, VisitsAt}
+use Rattle.wst_run.specs.declared.clients_at.ClientJob.TheVariants.{Lines}
 use Rattle.wst_clients.specs.Visits.{known_by}
 use Rattle.ws_scripts.specs.declared.expectation.Expectation.{Expectation}
 use Rattle.wst_run.specs.declared.sweep.SweepPlan.{SweepPlan}
@@ -49,13 +49,17 @@ pub record AreSweepRulesOf (plan : SweepPlan) (given : List Case) (rules : Visit
   pub max_fail : rules.max_fail ≡ plan.max_fail
   pub telling : rules.telling ≡ Scripts plan.all
 
--- what is told of the address is told, and then clients are tested, whose cases are the short scripts; or nothing is
+-- what is told of the address is told, and then clients are tested by the rules of a plan, with these cases; or nothing
+-- is
+abbrev pub SweepsCases : List ℕ → SweepPlan → List Case → Result Exit Fault → Device → Device → Type 0
+SweepsCases address plan cases ended output faults = (rules : VisitRules) × AreSweepRulesOf plan cases rules
+    × VisitsAt address Lines rules ended output faults
+
+-- so their cases are the short scripts
 abbrev pub SweepsAt : List ℕ → SweepPlan → Result Exit Fault → Device → Device → Type 0
 SweepsAt address plan ended output faults =
-    ((told : List ℕ) × IsToldFor address told × ((cases : List Case) × AreShortCases plan.run.expected plan.steps cases
-    × ((rules : VisitRules) × AreSweepRulesOf plan cases rules
-    × TestsBehind plan.run.wait told rules ended output faults)))
-    ⊎ TestsNone ended output faults
+    ((cases : List Case) × AreShortCases plan.run.expected plan.steps cases
+    × SweepsCases address plan cases ended output faults) ⊎ TestsNone ended output faults
 
 -- and how that ended is told behind what was told before
 abbrev pub SweepsClientsAt : List ℕ → SweepPlan → Exit → Device → Device → Type 0

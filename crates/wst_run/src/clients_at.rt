@@ -1,52 +1,56 @@
 //! Clients under test that come to an address of a network.
 
-ghost use Rattle.std.specs.Prelude.{◌≡◌, OnErr, OnOk, [], ◌∷◌, false, true};
+ghost use Rattle.std.specs.Prelude.{◌≡◌, ⊤, MatchResult, OnErr, OnOk, [], ◌∷◌, false, true};
 ghost use Rattle.std.specs.List.{All};
 ghost use Rattle.ws_frame.specs.Devices.{watched};
 ghost use Rattle.ws_frame.specs.Watching.{has_failed};
 ghost use Rattle.ws_scripts.specs.Scripts.{CanBeRun};
 ghost use Rattle.ws_upgrade.specs.Protocols.{AreOffers};
 ghost use Rattle.wst_commands.specs.Devices.{StaysFailed};
-ghost use Rattle.wst_run.specs.ClientRuns.{AreRulesOf, AreScriptRulesOf, CapturesOrNone, DocumentsOrNone};
-ghost use Rattle.wst_run.specs.ClientRuns.{HintsClient, IsDamageFault, SendsAt, SendsInputAt, SendsScript};
-ghost use Rattle.wst_run.specs.ClientRuns.{SendsTextAt, SendsToClientAt, TestsAt, TestsBehind, TestsClientsAt};
-ghost use Rattle.wst_run.specs.ClientRuns.{TestsToldAt, client_showing};
-ghost use Rattle.wst_clients.specs.ClientSends.{protocols_known};
-ghost use Rattle.ws_shown.specs.MarkedLines.{HasToldMarked};
+ghost use Rattle.wst_commands.specs.declared.exit.Exit.TheVariants.{Failed};
+ghost use Rattle.wst_clients.specs.ClientTests.{IsVisitFault};
+ghost use Rattle.wst_run.specs.ClientRuns.{AreRulesOf, AreScriptRulesOf, HintsClient, IsDamageFault};
+ghost use Rattle.wst_run.specs.ClientRuns.{IsJobFor, IsJobOf, SendsAt, SendsInputAt, SendsScript, SendsTextAt};
+ghost use Rattle.wst_run.specs.ClientRuns.{SendsToClientAt, TestsAt, TestsClientsAt, VisitsAt, VisitsTold};
+ghost use Rattle.wst_run.specs.ClientRuns.{client_showing};
 ghost use Rattle.wst_testing.specs.Notes.{TellsEach};
-ghost use Rattle.wst_sockets.specs.Accepting.{client_wait};
 ghost use Rattle.wst_sockets.specs.Serve.{listening_line};
 ghost use Rattle.wst_run.specs.Test.{CanBeTested};
+ghost use Rattle.wst_clients.specs.Turns.{unmet_as};
+ghost use Rattle.wst_clients.specs.Visitors.{AreHeld, AreTestedBy};
 ghost use Rattle.wst_clients.specs.Visits.{known_by};
 
+use crate::client_site::{ClientSite, listen_at, telling};
 use crate::send::{SendPlan, missed_echo, note_codes};
 use crate::test::TestPlan;
 use std::alloc::Global;
+use std::cell::Cell;
 use std::io::{Read, Write};
+use std::slice;
 use ws_base::{NoMemory, TextFault};
-use ws_connection::Silent;
 use ws_frame::{DataStyle, Watched};
 use ws_lines::Showing;
+use ws_loops::{Listener, Poller};
 use ws_reports::Report;
-use ws_shown::MarkedLines;
 use ws_suite::{Case, Expectation, Transcript, read_script};
+use ws_tester::Tester;
 use ws_wire::Role;
 use wst_clients::{
-    ScriptRules, Telling, VisitRules, capture_client, document_clients, script_client, test_clients,
+    ClientDocument, ScriptRules, Telling, VisitRules, Visitors, capture_client, document_clients,
+    script_client, show_client, test_clients,
 };
-use wst_commands::{Exit, Fault, ReadStop, deliver, end_run, read_whole, step_damage, tell};
-use wst_sockets::{
-    ListenerClients, Network, Waits, listen, listening_line, tell_listening, told_address,
+use wst_commands::{
+    Exit, Fault, ListenFault, ReadStop, deliver, end_run, read_whole, step_damage, tell,
 };
-use wst_testing::{LineStop, LineWriter, RunPlan, capture_text, tell_missed_echo};
+use wst_network::Connector;
+use wst_sockets::{Network, Notice, Running, Waits, listening_line, tell_listening};
+use wst_testing::{LineStop, RunPlan, capture_text, tell_missed_echo};
 
 /// Listens at an address, which is told in a line, with the port that the system chose in the place of a port 0, and
 /// tests the clients that come, as a plan asks, and tells of them as a report does. Where a capture or a document is
 /// asked for, that line goes to `faults`. Why nothing can be listened at is told there too.
-pub(crate) fn test_clients_at<N: Network, W: Write, F: Write>(
-    alloc: Global,
-    net: &N,
-    address: &str,
+pub(crate) fn test_clients_at<N: Network, C: Connector, W: Write, F: Write>(
+    site: &ClientSite<'_, N, C>,
     plan: &TestPlan<'_>,
     report: &Report,
     writer: &mut Watched<W>,
@@ -54,18 +58,16 @@ pub(crate) fn test_clients_at<N: Network, W: Write, F: Write>(
 ) -> Exit
     requires works { has_failed writer.old ≡ false }
     requires plan { CanBeTested plan.now }
-    ensures { TestsClientsAt address.now plan.now report.now result (watched W.contents writer.old writer.new)
+    ensures { TestsClientsAt site.now.address.now plan.now report.now result (watched W.contents writer.old writer.new)
         (watched F.contents faults.old faults.new) }
 {
-    let ended = test_at(alloc, net, address, plan, report, writer, faults);
-    end_run(alloc, ended, faults)
+    let ended = test_at(site, plan, report, writer, faults);
+    end_run(site.alloc, ended, faults)
 }
 
 /// Listens at an address, and tests the clients that come.
-fn test_at<N: Network, W: Write, F: Write>(
-    alloc: Global,
-    net: &N,
-    address: &str,
+fn test_at<N: Network, C: Connector, W: Write, F: Write>(
+    site: &ClientSite<'_, N, C>,
     plan: &TestPlan<'_>,
     report: &Report,
     writer: &mut Watched<W>,
@@ -73,25 +75,86 @@ fn test_at<N: Network, W: Write, F: Write>(
 ) -> Result<Exit, Fault>
     requires works { has_failed writer.old ≡ false }
     requires plan { CanBeTested plan.now }
-    ensures tests { TestsAt address.now plan.now report.now result (watched W.contents writer.old writer.new)
+    ensures tests { TestsAt site.now.address.now plan.now report.now result (watched W.contents writer.old writer.new)
         (watched F.contents faults.old faults.new) }
     ensures still { StaysFailed faults.old faults.new }
 {
-    let listener = match listen(net, address) {
-        Ok(listener) => listener,
-        Err(why) => return Err(Fault::NotListening(why)),
+    let rules = visit_rules(plan, report);
+    let job = client_job(plan, report);
+    let visits = ClientRun { rules: &rules, job };
+    visit_at(site, &plan.run, visits, writer, faults)
+}
+
+/// What is written of the clients of a plan.
+fn client_job<'a>(plan: &TestPlan<'a>, report: &'a Report) -> ClientJob<'a>
+    ensures { IsJobOf plan.now report.now result }
+{
+    if plan.capture {
+        return ClientJob::Capture;
+    }
+    if report.is_junit() {
+        return ClientJob::Document(ClientDocument {
+            target: plan.target,
+            report,
+        });
+    }
+    ClientJob::Lines
+}
+
+/// What is written of the clients that come.
+#[derive(Clone, Copy)]
+pub(crate) enum ClientJob<'a> {
+    /// The capture of the one case.
+    Capture,
+    /// This document.
+    Document(ClientDocument<'a>),
+    /// A line for each case.
+    Lines,
+}
+
+/// How the clients that come are tested, and what is written of them.
+#[derive(Clone, Copy)]
+pub(crate) struct ClientRun<'a> {
+    pub(crate) rules: &'a VisitRules<'a>,
+    pub(crate) job: ClientJob<'a>,
+}
+
+/// Listens at an address, and tests the clients that come.
+pub(crate) fn visit_at<N: Network, C: Connector, W: Write, F: Write>(
+    site: &ClientSite<'_, N, C>,
+    run: &RunPlan<'_>,
+    visits: ClientRun<'_>,
+    writer: &mut Watched<W>,
+    faults: &mut Watched<F>,
+) -> Result<Exit, Fault>
+    requires works { has_failed writer.old ≡ false }
+    requires can { All CanBeRun visits.rules.now.cases.now }
+    requires one { IsJobFor visits.job visits.rules.now }
+    requires known { AreOffers (known_by visits.rules.now) }
+    requires protocols { known_by visits.rules.now ≡ run.now.protocols }
+    requires wait { visits.rules.now.wait ≡ run.now.wait }
+    ensures tests { VisitsAt site.now.address.now visits.entry.job visits.entry.rules.now result
+        (watched W.contents writer.old writer.new) (watched F.contents faults.old faults.new) }
+    ensures still { StaysFailed faults.old faults.new }
+{
+    let heard = listen_at(site)?;
+    let number = Cell::new(None);
+    let notice = Cell::new(Notice::of(run.timeout));
+    let running = Running {
+        cases: visits.rules.cases,
+        number: &number,
     };
-    let told = told_address(alloc, &listener, address)?;
-    let clients = ListenerClients::of(net, &listener, waits_of(&plan.run));
-    test_told(
-        alloc,
-        &clients,
-        told.as_slice(),
-        plan,
-        report,
-        writer,
-        faults,
-    )
+    let poller = telling(site.alloc, site.net, heard.poller, &notice, running);
+    let mut visitors = Visitors::new(
+        site.alloc,
+        heard.listener,
+        poller,
+        run.protocols.as_slice(),
+        waits_of(run),
+        &number,
+    )?;
+    let address = heard.told.as_slice();
+    test_told(site.alloc, &mut visitors, address, visits, writer, faults)
 }
 
 /// How long the clients of a plan are waited for, and how long a connection to one lasts.
@@ -106,100 +169,43 @@ pub(crate) fn waits_of(run: &RunPlan<'_>) -> Waits
 }
 
 /// Tells at which address is listened, and tests the clients that come to it.
-fn test_told<N: Network, W: Write, F: Write>(
+fn test_told<L: Listener + Drop, P: Poller + Drop, W: Write, F: Write>(
     alloc: Global,
-    clients: &ListenerClients<'_, N, N::Listener>,
+    visitors: &mut Visitors<'_, Tester, L, P>,
     address: &[u8],
-    plan: &TestPlan<'_>,
-    report: &Report,
+    visits: ClientRun<'_>,
     writer: &mut Watched<W>,
     faults: &mut Watched<F>,
 ) -> Result<Exit, Fault>
     requires works { has_failed writer.old ≡ false }
-    requires plan { CanBeTested plan.now }
-    ensures tests { TestsToldAt (client_wait clients.now) address.now plan.now report.now result
-        (watched W.contents writer.old writer.new) (watched F.contents faults.old faults.new) }
+    requires can { All CanBeRun visits.rules.now.cases.now }
+    requires one { IsJobFor visits.job visits.rules.now }
+    requires known { AreOffers (known_by visits.rules.now) }
+    requires are { AreTestedBy visits.rules.now visitors.old }
+    requires held { AreHeld L.Client.did visitors.old }
+    ensures tests { VisitsTold (unmet_as L.did P.time visitors.old) address.now visits.entry.job
+        visits.entry.rules.now result (watched W.contents writer.old writer.new)
+        (watched F.contents faults.old faults.new) }
     ensures still { StaysFailed faults.old faults.new }
 {
-    let rules = visit_rules(plan, report);
-    if plan.capture {
-        return capture_noted(alloc, clients, address, plan, &rules, writer, faults);
+    let rules = visits.rules;
+    match visits.job {
+        ClientJob::Capture => {
+            note_listening(alloc, address, faults)?;
+            capture_client(alloc, visitors, rules, &rules.cases[0], writer, faults)
+        }
+        ClientJob::Document(document) => {
+            note_listening(alloc, address, faults)?;
+            document_clients(alloc, visitors, rules, document, writer, faults)
+        }
+        ClientJob::Lines => {
+            let told = tell_listening(alloc, address, writer)?;
+            if writer.failed() {
+                return Ok(told);
+            }
+            test_clients(alloc, visitors, rules, writer, faults)
+        }
     }
-    if report.is_junit() {
-        return document_noted(
-            alloc, clients, address, plan, report, &rules, writer, faults,
-        );
-    }
-    test_all(alloc, clients, address, &rules, writer, faults)
-}
-
-/// Tells on the fault output at which address is listened, and captures a client that comes to it.
-fn capture_noted<N: Network, W: Write, F: Write>(
-    alloc: Global,
-    clients: &ListenerClients<'_, N, N::Listener>,
-    address: &[u8],
-    plan: &TestPlan<'_>,
-    rules: &VisitRules<'_>,
-    writer: &mut Watched<W>,
-    faults: &mut Watched<F>,
-) -> Result<Exit, Fault>
-    requires works { has_failed writer.old ≡ false }
-    requires plan { CanBeTested plan.now }
-    requires captures { plan.now.capture ≡ true }
-    requires cases { rules.now.cases.now ≡ plan.now.cases.items }
-    requires known { AreOffers (known_by rules.now) }
-    ensures captures { CapturesOrNone (client_wait clients.now) address.now plan.now rules.now result
-        (watched W.contents writer.old writer.new) (watched F.contents faults.old faults.new) }
-    ensures still { StaysFailed faults.old faults.new }
-{
-    note_listening(alloc, address, faults)?;
-    let cases = plan.cases.as_slice();
-    capture_client(alloc, clients, rules, &cases[0], writer, faults)
-}
-
-/// Tells on the fault output at which address is listened, and writes a document of the clients that come to it.
-fn document_noted<N: Network, W: Write, F: Write>(
-    alloc: Global,
-    clients: &ListenerClients<'_, N, N::Listener>,
-    address: &[u8],
-    plan: &TestPlan<'_>,
-    report: &Report,
-    rules: &VisitRules<'_>,
-    writer: &mut Watched<W>,
-    faults: &mut Watched<F>,
-) -> Result<Exit, Fault>
-    requires works { has_failed writer.old ≡ false }
-    requires can { All CanBeRun rules.now.cases.now }
-    requires known { AreOffers (known_by rules.now) }
-    ensures documents { DocumentsOrNone (client_wait clients.now) address.now plan.now report.now rules.now result
-        (watched W.contents writer.old writer.new) (watched F.contents faults.old faults.new) }
-    ensures still { StaysFailed faults.old faults.new }
-{
-    note_listening(alloc, address, faults)?;
-    document_clients(alloc, clients, rules, plan.target, report, writer, faults)
-}
-
-/// Tells on the output at which address is listened, and tests the clients that come to it.
-pub(crate) fn test_all<N: Network, W: Write, F: Write>(
-    alloc: Global,
-    clients: &ListenerClients<'_, N, N::Listener>,
-    address: &[u8],
-    rules: &VisitRules<'_>,
-    writer: &mut Watched<W>,
-    faults: &mut Watched<F>,
-) -> Result<Exit, Fault>
-    requires works { has_failed writer.old ≡ false }
-    requires can { All CanBeRun rules.now.cases.now }
-    requires known { AreOffers (known_by rules.now) }
-    ensures tests { TestsBehind (client_wait clients.now) address.now rules.now result
-        (watched W.contents writer.old writer.new) (watched F.contents faults.old faults.new) }
-    ensures still { StaysFailed faults.old faults.new }
-{
-    let told = tell_listening(alloc, address, writer)?;
-    if writer.failed() {
-        return Ok(told);
-    }
-    test_clients(alloc, clients, rules, writer, faults)
 }
 
 /// How the clients of a plan are tested.
@@ -239,10 +245,8 @@ pub(crate) fn note_listening<F: Write>(
 
 /// Reads a script, listens at an address, which is told to `faults` in a line, and sends the script to the first client
 /// whose request is accepted, as a plan asks.
-pub(crate) fn send_to_clients_at<N: Network, R: Read, W: Write, F: Write>(
-    alloc: Global,
-    net: &N,
-    address: &str,
+pub(crate) fn send_to_clients_at<N: Network, C: Connector, R: Read, W: Write, F: Write>(
+    site: &ClientSite<'_, N, C>,
     plan: &SendPlan<'_>,
     reader: &mut Watched<R>,
     writer: &mut Watched<W>,
@@ -250,18 +254,16 @@ pub(crate) fn send_to_clients_at<N: Network, R: Read, W: Write, F: Write>(
 ) -> Exit
     requires reader_works { has_failed reader.old ≡ false }
     requires writer_works { has_failed writer.old ≡ false }
-    ensures { SendsToClientAt address.now plan.now result (watched R.remaining reader.old reader.new)
+    ensures { SendsToClientAt site.now.address.now plan.now result (watched R.remaining reader.old reader.new)
         (watched W.contents writer.old writer.new) (watched F.contents faults.old faults.new) }
 {
-    let ended = send_input(alloc, net, address, plan, reader, writer, faults);
-    end_run(alloc, ended, faults)
+    let ended = send_input(site, plan, reader, writer, faults);
+    end_run(site.alloc, ended, faults)
 }
 
 /// Reads a script, and sends it to a client.
-fn send_input<N: Network, R: Read, W: Write, F: Write>(
-    alloc: Global,
-    net: &N,
-    address: &str,
+fn send_input<N: Network, C: Connector, R: Read, W: Write, F: Write>(
+    site: &ClientSite<'_, N, C>,
     plan: &SendPlan<'_>,
     reader: &mut Watched<R>,
     writer: &mut Watched<W>,
@@ -269,38 +271,36 @@ fn send_input<N: Network, R: Read, W: Write, F: Write>(
 ) -> Result<Exit, Fault>
     requires reader_works { has_failed reader.old ≡ false }
     requires writer_works { has_failed writer.old ≡ false }
-    ensures sends { SendsInputAt address.now plan.now result (watched R.remaining reader.old reader.new)
+    ensures sends { SendsInputAt site.now.address.now plan.now result (watched R.remaining reader.old reader.new)
         (watched W.contents writer.old writer.new) (watched F.contents faults.old faults.new) }
     ensures still { StaysFailed faults.old faults.new }
 {
-    match read_whole(alloc, reader) {
-        Ok(text) => send_text(alloc, net, address, plan, text.as_slice(), writer, faults),
+    match read_whole(site.alloc, reader) {
+        Ok(text) => send_text(site, plan, text.as_slice(), writer, faults),
         Err(ReadStop::Fault) => Ok(Exit::Failed),
         Err(ReadStop::NoMemory) => Err(Fault::NoMemory),
     }
 }
 
 /// Sends the script that a text is.
-fn send_text<N: Network, W: Write, F: Write>(
-    alloc: Global,
-    net: &N,
-    address: &str,
+fn send_text<N: Network, C: Connector, W: Write, F: Write>(
+    site: &ClientSite<'_, N, C>,
     plan: &SendPlan<'_>,
     text: &[u8],
     writer: &mut Watched<W>,
     faults: &mut Watched<F>,
 ) -> Result<Exit, Fault>
     requires writer_works { has_failed writer.old ≡ false }
-    ensures sends { SendsTextAt address.now plan.now text.now result (watched W.contents writer.old writer.new)
+    ensures sends { SendsTextAt site.now.address.now plan.now text.now result (watched W.contents writer.old writer.new)
         (watched F.contents faults.old faults.new) }
     ensures still { StaysFailed faults.old faults.new }
 {
-    match read_script(alloc, text) {
+    match read_script(site.alloc, text) {
         Ok(case) => {
-            note_codes(alloc, text, faults)?;
-            send_at(alloc, net, address, plan, &case, writer, faults)
+            note_codes(site.alloc, text, faults)?;
+            send_at(site, plan, &case, writer, faults)
         }
-        Err(TextFault::Damaged(line)) => Err(damage_fault(alloc, text, line)),
+        Err(TextFault::Damaged(line)) => Err(damage_fault(site.alloc, text, line)),
         Err(TextFault::NoMemory) => Err(Fault::NoMemory),
     }
 }
@@ -315,11 +315,9 @@ fn damage_fault(alloc: Global, text: &[u8], line: u64) -> Fault
     }
 }
 
-/// Listens at an address, and sends a script to a client that comes.
-fn send_at<N: Network, W: Write, F: Write>(
-    alloc: Global,
-    net: &N,
-    address: &str,
+/// Listens at an address, which is told, and sends a script to a client that comes.
+fn send_at<N: Network, C: Connector, W: Write, F: Write>(
+    site: &ClientSite<'_, N, C>,
     plan: &SendPlan<'_>,
     case: &Case,
     writer: &mut Watched<W>,
@@ -327,46 +325,43 @@ fn send_at<N: Network, W: Write, F: Write>(
 ) -> Result<Exit, Fault>
     requires writer_works { has_failed writer.old ≡ false }
     requires can { CanBeRun case.now }
-    ensures sends { SendsAt address.now plan.now case.now result (watched W.contents writer.old writer.new)
+    ensures sends { SendsAt site.now.address.now plan.now case.now result (watched W.contents writer.old writer.new)
         (watched F.contents faults.old faults.new) }
     ensures still { StaysFailed faults.old faults.new }
 {
-    let listener = match listen(net, address) {
-        Ok(listener) => listener,
-        Err(why) => return Err(Fault::NotListening(why)),
+    let heard = listen_at(site)?;
+    note_listening(site.alloc, heard.told.as_slice(), faults)?;
+    let number = Cell::new(Some(1));
+    let notice = Cell::new(Notice::of(plan.run.timeout));
+    let running = Running {
+        cases: slice::from_ref(case),
+        number: &number,
     };
-    let told = told_address(alloc, &listener, address)?;
-    note_listening(alloc, told.as_slice(), faults)?;
-    let clients = ListenerClients::of(net, &listener, waits_of(&plan.run));
-    send_script(alloc, &clients, plan, case, writer, faults)
-}
-
-/// Sends a script to a client, and writes the run as the plan asks.
-fn send_script<N: Network, W: Write, F: Write>(
-    alloc: Global,
-    clients: &ListenerClients<'_, N, N::Listener>,
-    plan: &SendPlan<'_>,
-    case: &Case,
-    writer: &mut Watched<W>,
-    faults: &mut Watched<F>,
-) -> Result<Exit, Fault>
-    requires writer_works { has_failed writer.old ≡ false }
-    requires can { CanBeRun case.now }
-    ensures sends { SendsScript (client_wait clients.now) plan.now case.now result
-        (watched W.contents writer.old writer.new) (watched F.contents faults.old faults.new) }
-    ensures still { StaysFailed faults.old faults.new }
-{
+    let poller = telling(site.alloc, site.net, heard.poller, &notice, running);
+    let come = Come {
+        listener: heard.listener,
+        poller,
+        number: &number,
+    };
     if plan.capture {
-        capture_script(alloc, clients, plan, case, writer, faults)
+        capture_script(site.alloc, come, plan, case, writer, faults)
     } else {
-        show_script(alloc, clients, plan, case, writer, faults)
+        show_script(site.alloc, come, plan, case, writer, faults)
     }
 }
 
+/// Those who come: what is listened by, what waits for it, and where it stands which case is run.
+#[derive(Drop)]
+struct Come<'a, L, P> {
+    listener: L,
+    poller: P,
+    number: &'a Cell<Option<u32>>,
+}
+
 /// Sends a script to a client, and writes the capture of the run.
-fn capture_script<N: Network, W: Write, F: Write>(
+fn capture_script<L: Listener + Drop, P: Poller + Drop, W: Write, F: Write>(
     alloc: Global,
-    clients: &ListenerClients<'_, N, N::Listener>,
+    come: Come<'_, L, P>,
     plan: &SendPlan<'_>,
     case: &Case,
     writer: &mut Watched<W>,
@@ -375,12 +370,15 @@ fn capture_script<N: Network, W: Write, F: Write>(
     requires writer_works { has_failed writer.old ≡ false }
     requires can { CanBeRun case.now }
     requires captures { plan.now.capture ≡ true }
-    ensures sends { SendsScript (client_wait clients.now) plan.now case.now result
+    ensures sends { SendsScript ⊤ plan.now case.now result
         (watched W.contents writer.old writer.new) (watched F.contents faults.old faults.new) }
     ensures still { StaysFailed faults.old faults.new }
 {
-    let rules = script_rules(plan);
-    let sent = script_client(alloc, clients, &rules, case, &mut Silent, faults)?;
+    let rules = script_rules(plan, case);
+    let known = plan.run.protocols.as_slice();
+    let waits = waits_of(&plan.run);
+    let mut visitors = Visitors::new(alloc, come.listener, come.poller, known, waits, come.number)?;
+    let sent = script_client(alloc, &mut visitors, &rules, faults)?;
     let Some(transcript) = sent else {
         return Ok(Exit::Failed);
     };
@@ -390,9 +388,9 @@ fn capture_script<N: Network, W: Write, F: Write>(
 
 /// Sends a script to a client, and writes the lines of the run as it goes on.
 #[inline(never)]
-fn show_script<N: Network, W: Write, F: Write>(
+fn show_script<L: Listener + Drop, P: Poller + Drop, W: Write, F: Write>(
     alloc: Global,
-    clients: &ListenerClients<'_, N, N::Listener>,
+    come: Come<'_, L, P>,
     plan: &SendPlan<'_>,
     case: &Case,
     writer: &mut Watched<W>,
@@ -401,43 +399,39 @@ fn show_script<N: Network, W: Write, F: Write>(
     requires writer_works { has_failed writer.old ≡ false }
     requires can { CanBeRun case.now }
     requires shows { plan.now.capture ≡ false }
-    ensures sends { SendsScript (client_wait clients.now) plan.now case.now result
+    ensures sends { SendsScript ⊤ plan.now case.now result
         (watched W.contents writer.old writer.new) (watched F.contents faults.old faults.new) }
     ensures still { StaysFailed faults.old faults.new }
 {
-    let mut parts = MarkedLines::new(alloc, client_showing(plan.style));
-    script_told(alloc, clients, plan, case, &mut parts, writer, faults)
+    let rules = script_rules(plan, case);
+    let known = plan.run.protocols.as_slice();
+    let waits = waits_of(&plan.run);
+    let mut visitors = Visitors::new(alloc, come.listener, come.poller, known, waits, come.number)?;
+    let showing = client_showing(plan.style);
+    let sent = match show_client(alloc, &mut visitors, &rules, showing, writer, faults) {
+        Ok(sent) => sent,
+        Err(why) => return end_of_lines(why, writer.failed()),
+    };
+    let Some(transcript) = sent else {
+        return Ok(Exit::Failed);
+    };
+    hint_client(alloc, plan.run.expected, &transcript, faults);
+    Ok(Exit::Done)
 }
 
-/// Does that with the lines of a transcript of which no turn has begun.
-fn script_told<N: Network, W: Write, F: Write>(
-    alloc: Global,
-    clients: &ListenerClients<'_, N, N::Listener>,
-    plan: &SendPlan<'_>,
-    case: &Case,
-    parts: &mut MarkedLines,
-    writer: &mut Watched<W>,
-    faults: &mut Watched<F>,
-) -> Result<Exit, Fault>
-    requires writer_works { has_failed writer.old ≡ false }
-    requires can { CanBeRun case.now }
-    requires shows { plan.now.capture ≡ false }
-    requires begun { HasToldMarked (client_showing plan.now.style) parts.old [] [] }
-    ensures sends { SendsScript (client_wait clients.now) plan.now case.now result
-        (watched W.contents writer.old writer.new) (watched F.contents faults.old faults.new) }
-    ensures still { StaysFailed faults.old faults.new }
+/// How a run ends whose lines could not all be written, for this reason, where the output has failed or not.
+fn end_of_lines(why: LineStop, failed: bool) -> Result<Exit, Fault>
+    ensures { MatchResult result (λ exit. (exit ≡ Failed) × (failed ≡ true)) (IsVisitFault ⊤) }
 {
-    let rules = script_rules(plan);
-    let showing = client_showing(plan.style);
-    let mut lines = LineWriter::new(alloc, showing, parts, writer);
-    match script_client(alloc, clients, &rules, case, &mut lines, faults) {
-        Ok(Some(transcript)) => {
-            hint_client(alloc, plan.run.expected, &transcript, faults);
-            Ok(Exit::Done)
+    match why {
+        LineStop::Output => {
+            if failed {
+                return Ok(Exit::Failed);
+            }
+            Err(Fault::NoMemory)
         }
-        Ok(None) => Ok(Exit::Failed),
-        Err(LineStop::Output) if writer.failed() => Ok(Exit::Failed),
-        Err(LineStop::Output | LineStop::NoMemory | LineStop::Network) => Err(Fault::NoMemory),
+        LineStop::NoMemory => Err(Fault::NoMemory),
+        LineStop::Network => Err(Fault::NotListening(ListenFault::Failed)),
     }
 }
 
@@ -468,12 +462,11 @@ fn hint_client<F: Write>(
 }
 
 /// How a script of a plan is sent.
-fn script_rules<'a>(plan: &'a SendPlan<'_>) -> ScriptRules<'a>
-    ensures rules { AreScriptRulesOf plan.now result }
-    ensures known { AreOffers (protocols_known result) }
+fn script_rules<'a>(plan: &SendPlan<'_>, case: &'a Case) -> ScriptRules<'a>
+    ensures { AreScriptRulesOf plan.now case.now result }
 {
     ScriptRules {
-        protocols: plan.run.protocols.as_slice(),
+        case,
         budget: plan.run.budget,
         has_timeouts: plan.run.timeout.is_limited(),
         expected: plan.run.expected,

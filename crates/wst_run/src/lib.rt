@@ -5,6 +5,7 @@
 //! what came of it is one of four exits; and `words_are_no_text` where there are no words.
 #![tactic(auto)]
 
+mod client_site;
 mod clients_at;
 mod running;
 mod send;

@@ -12,6 +12,7 @@ ghost use Rattle.wst_run.specs.ClientRuns.{MayTellMissed, NotesCodes};
 ghost use Rattle.wst_run.specs.Send.{IsDamageStop, TellsRefused, TellsSendEnd, send_showing};
 ghost use Rattle.wst_run.specs.declared.send.SendStop.TheVariants as stop;
 
+use crate::client_site::ClientSite;
 use crate::clients_at::send_to_clients_at;
 use std::alloc::Global;
 use std::io::{Read, Write};
@@ -109,7 +110,15 @@ pub(crate) fn send_to_target<N: Network, C: Connector, R: Read, W: Write, F: Wri
 {
     match End::of_plan(net, connector, &plan.run) {
         Ok(end) => send_to(alloc, &end, plan, reader, writer, faults),
-        Err(address) => send_to_clients_at(alloc, net, address, plan, reader, writer, faults),
+        Err(address) => {
+            let site = ClientSite {
+                alloc,
+                net,
+                connector,
+                address,
+            };
+            send_to_clients_at(&site, plan, reader, writer, faults)
+        }
     }
 }
 

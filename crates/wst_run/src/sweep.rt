@@ -7,6 +7,7 @@ ghost use Rattle.ws_sweep.specs.Order.{max_steps};
 ghost use Rattle.wst_run.specs.Sweep.{GivesSteps, IsSweepPlan, RefusesSweep, RunsSweepPlan, TellsSweepRefusal};
 ghost use Rattle.wst_run.specs.Sweep.{HasTooManySteps, SweepsOver, sweep_rules_of};
 
+use crate::client_site::ClientSite;
 use crate::sweeping_clients::sweep_clients_at;
 use std::alloc::Global;
 use std::io::Write;
@@ -108,7 +109,15 @@ pub(crate) fn sweep_target<N: Network, C: Connector, W: Write, F: Write>(
 {
     match End::of_plan(net, connector, &plan.run) {
         Ok(end) => sweep_over(alloc, &end, plan, writer, faults),
-        Err(address) => sweep_clients_at(alloc, net, address, plan, writer, faults),
+        Err(address) => {
+            let site = ClientSite {
+                alloc,
+                net,
+                connector,
+                address,
+            };
+            sweep_clients_at(&site, plan, writer, faults)
+        }
     }
 }
 

@@ -8,10 +8,13 @@ ghost use Rattle.ws_scripts.specs.Scripts.{CanBeRun};
 ghost use Rattle.ws_sweep.specs.Order.{ArePlaces, max_steps};
 ghost use Rattle.ws_upgrade.specs.Protocols.{AreOffers};
 ghost use Rattle.wst_commands.specs.Devices.{StaysFailed};
-ghost use Rattle.wst_run.specs.ClientSweeps.{AreShortCases, AreSweepRulesOf, IsNamedCase, SweepsAt, SweepsClientsAt};
+ghost use Rattle.wst_run.specs.ClientSweeps.{AreShortCases, AreSweepRulesOf, IsNamedCase, SweepsAt, SweepsCases};
+ghost use Rattle.wst_run.specs.ClientSweeps.{SweepsClientsAt};
+ghost use Rattle.wst_run.specs.declared.clients_at.ClientJob.TheVariants.{Lines};
 ghost use Rattle.wst_clients.specs.Visits.{known_by};
 
-use crate::clients_at::{test_all, waits_of};
+use crate::client_site::ClientSite;
+use crate::clients_at::{ClientJob, ClientRun, visit_at};
 use crate::sweep::SweepPlan;
 use std::alloc::Global;
 use std::io::Write;
@@ -22,52 +25,69 @@ use ws_sweep::{ShortScript, ShortScripts, short_case, tell_steps};
 use ws_wire::Role;
 use wst_clients::{Telling, VisitRules};
 use wst_commands::{Exit, Fault, end_run};
-use wst_sockets::{ListenerClients, Network, listen, told_address};
+use wst_network::Connector;
+use wst_sockets::Network;
 
 /// Listens at an address, which is told in a line, with the port that the system chose in the place of a port 0, and
 /// tests the clients that come, whose cases are the short scripts of a plan. Why nothing can be listened at is told to
 /// `faults`.
-pub(crate) fn sweep_clients_at<N: Network, W: Write, F: Write>(
-    alloc: Global,
-    net: &N,
-    address: &str,
+pub(crate) fn sweep_clients_at<N: Network, C: Connector, W: Write, F: Write>(
+    site: &ClientSite<'_, N, C>,
     plan: &SweepPlan<'_>,
     writer: &mut Watched<W>,
     faults: &mut Watched<F>,
 ) -> Exit
     requires works { has_failed writer.old ≡ false }
     requires steps { plan.now.steps ≤ max_steps }
-    ensures { SweepsClientsAt address.now plan.now result (watched W.contents writer.old writer.new)
+    ensures { SweepsClientsAt site.now.address.now plan.now result (watched W.contents writer.old writer.new)
         (watched F.contents faults.old faults.new) }
 {
-    let ended = sweep_at(alloc, net, address, plan, writer, faults);
-    end_run(alloc, ended, faults)
+    let ended = sweep_at(site, plan, writer, faults);
+    end_run(site.alloc, ended, faults)
 }
 
 /// Listens at an address, and tests the clients that come.
-fn sweep_at<N: Network, W: Write, F: Write>(
-    alloc: Global,
-    net: &N,
-    address: &str,
+fn sweep_at<N: Network, C: Connector, W: Write, F: Write>(
+    site: &ClientSite<'_, N, C>,
     plan: &SweepPlan<'_>,
     writer: &mut Watched<W>,
     faults: &mut Watched<F>,
 ) -> Result<Exit, Fault>
     requires works { has_failed writer.old ≡ false }
     requires steps { plan.now.steps ≤ max_steps }
-    ensures sweeps { SweepsAt address.now plan.now result (watched W.contents writer.old writer.new)
+    ensures sweeps { SweepsAt site.now.address.now plan.now result (watched W.contents writer.old writer.new)
         (watched F.contents faults.old faults.new) }
     ensures still { StaysFailed faults.old faults.new }
 {
-    let cases = short_cases(alloc, plan.run.expected, plan.steps)?;
-    let listener = match listen(net, address) {
-        Ok(listener) => listener,
-        Err(why) => return Err(Fault::NotListening(why)),
-    };
-    let told = told_address(alloc, &listener, address)?;
-    let clients = ListenerClients::of(net, &listener, waits_of(&plan.run));
-    let rules = sweep_rules(plan, cases.as_slice());
-    test_all(alloc, &clients, told.as_slice(), &rules, writer, faults)
+    let cases = short_cases(site.alloc, plan.run.expected, plan.steps)?;
+    sweep_cases(site, plan, cases.as_slice(), writer, faults)
+}
+
+/// Listens at an address, and tests the clients that come in these cases.
+fn sweep_cases<'a, N: Network, C: Connector, W: Write, F: Write>(
+    site: &ClientSite<'_, N, C>,
+    plan: &'a SweepPlan<'_>,
+    cases: &'a [Case],
+    writer: &mut Watched<W>,
+    faults: &mut Watched<F>,
+) -> Result<Exit, Fault>
+    requires works { has_failed writer.old ≡ false }
+    requires can { All CanBeRun cases.now }
+    ensures sweeps { SweepsCases site.now.address.now plan.now cases.now result
+        (watched W.contents writer.old writer.new) (watched F.contents faults.old faults.new) }
+    ensures still { StaysFailed faults.old faults.new }
+{
+    let rules = sweep_rules(plan, cases);
+    let job = sweep_job(plan);
+    let visits = ClientRun { rules: &rules, job };
+    visit_at(site, &plan.run, visits, writer, faults)
+}
+
+/// What is written of the clients of a plan: lines.
+fn sweep_job<'a>(_plan: &SweepPlan<'a>) -> ClientJob<'a>
+    ensures { result ≡ Lines }
+{
+    ClientJob::Lines
 }
 
 /// How the clients of a plan are tested, with these cases.

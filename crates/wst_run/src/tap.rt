@@ -16,7 +16,7 @@ use std::net::Net;
 use ws_frame::Watched;
 use ws_targets::{Advice, Target, TargetFault, is_address, read_target, target_advice};
 use wst_commands::{Exit, Fault, end_run, tell, tell_fault};
-use wst_sockets::{ListenerPairs, listen, tap_pairs, tell_listening, told_address};
+use wst_sockets::{ListenerPairs, listen, port_of, tap_pairs, tell_listening, told_address};
 use wst_testing::is_url;
 use wst_words::TapOptions;
 
@@ -139,7 +139,7 @@ fn tap_at<N: Net, W: Write>(
         Ok(listener) => listener,
         Err(why) => return Err(Fault::NotListening(why)),
     };
-    let address = told_address(alloc, &listener, options.listen)?;
+    let address = told_address(alloc, port_of(&listener), options.listen)?;
     let told = tell_listening(alloc, address.as_slice(), writer)?;
     if writer.failed() {
         return Ok(told);

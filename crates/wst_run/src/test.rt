@@ -8,6 +8,7 @@ ghost use Rattle.wst_commands.specs.GivenCases.{names_of};
 ghost use Rattle.wst_run.specs.Test.{CanBeTested, CarriesOut, IsPlan, RefusesTest, ReportsPlan, RunsPlan, RunsPlanOver};
 ghost use Rattle.wst_run.specs.Test.{explained_with, is_one_case, rules_of};
 
+use crate::client_site::ClientSite;
 use crate::clients_at::test_clients_at;
 use std::alloc::Global;
 use std::io::Write;
@@ -58,7 +59,15 @@ pub(crate) fn run_over_target<N: Network, C: Connector, W: Write, F: Write>(
 {
     match End::of_plan(net, connector, &plan.run) {
         Ok(end) => run_plan(alloc, &end, plan, report, writer, faults),
-        Err(address) => test_clients_at(alloc, net, address, plan, report, writer, faults),
+        Err(address) => {
+            let site = ClientSite {
+                alloc,
+                net,
+                connector,
+                address,
+            };
+            test_clients_at(&site, plan, report, writer, faults)
+        }
     }
 }
 

@@ -7,12 +7,10 @@ ghost use Rattle.wst_sockets.specs.Serve.{IsServedBy};
 
 use crate::accepting::{NoClient, accepted_in_time};
 use crate::lingering::linger;
-use crate::pace::Pace;
 use crate::serve::ServePlan;
 use crate::stream::{Side, half_closed, shared};
-use crate::waiting::{Network, Notice, Running, WaitTeller};
 use std::alloc::Global;
-use std::cell::{Cell, RefCell};
+use std::cell::RefCell;
 use std::io::{Read, Write};
 use std::net::{Net, OpenListener, OpenStream};
 use std::os::fd::AsRawFd;
@@ -71,7 +69,6 @@ pub struct ListenerClients<'a, N, L> {
     net: &'a N,
     listener: &'a L,
     waits: Waits,
-    notice: Cell<Notice>,
 }
 
 impl<'a, N, L> ListenerClients<'a, N, L> {
@@ -83,20 +80,7 @@ impl<'a, N, L> ListenerClients<'a, N, L> {
             net,
             listener,
             waits,
-            notice: Cell::new(Notice::of(waits.byte)),
         }
-    }
-}
-
-impl<N: Network, L> ListenerClients<'_, N, L> {
-    /// Tells of the waits for bytes of them, by the name of the case that is run.
-    pub fn teller<'x>(&'x self, alloc: Global, running: Running<'x>) -> WaitTeller<'x, N> {
-        WaitTeller::of(alloc, self.net, &self.notice, running)
-    }
-
-    /// The times of a connection to one of them, which begins now.
-    pub fn pace(&self) -> Pace<'_, N> {
-        Pace::of(self.net, self.waits.byte, self.waits.deadline)
     }
 }
 

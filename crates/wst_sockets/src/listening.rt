@@ -16,7 +16,7 @@ use wst_network::is_of_lost_client;
 pub fn listen<N: Net>(net: &N, address: &str) -> Result<N::Listener, ListenFault> {
     let addresses = match address.to_socket_addrs(net) {
         Ok(addresses) => addresses,
-        Err(error) => return Err(lookup_fault(error.kind())),
+        Err(error) => return Err(listen_lookup_fault(error.kind())),
     };
     let mut why = ListenFault::NoSuchHost;
     for address in addresses {
@@ -29,16 +29,12 @@ pub fn listen<N: Net>(net: &N, address: &str) -> Result<N::Listener, ListenFault
 }
 
 /// What is told of an address at which a listener takes connections: the word as it was given, but that the port which
-/// the system chose stands in the place of a port 0. A listener whose port is not known can't be told of.
-pub fn told_address<L: OpenListener>(
-    alloc: Global,
-    listener: &L,
-    address: &str,
-) -> Result<Vec<u8>, Fault>
+/// the system chose, which is this one, stands in the place of a port 0. Where it is not known, that can't be told.
+pub fn told_address(alloc: Global, port: Option<u16>, address: &str) -> Result<Vec<u8>, Fault>
     ensures { MatchResult result (λ told. IsToldFor address.now told.items) CanNotTell }
 {
     match host_at_port_0(address) {
-        Some(host) => told_with_port(alloc, listener, host),
+        Some(host) => told_with_port(alloc, port, host),
         None => told_as_given(alloc, address),
     }
 }
@@ -53,17 +49,13 @@ fn told_as_given(alloc: Global, address: &str) -> Result<Vec<u8>, Fault>
 }
 
 /// A host with the port that the system chose.
-fn told_with_port<L: OpenListener>(
-    alloc: Global,
-    listener: &L,
-    host: &[u8],
-) -> Result<Vec<u8>, Fault>
+fn told_with_port(alloc: Global, port: Option<u16>, host: &[u8]) -> Result<Vec<u8>, Fault>
     ensures { MatchResult result (λ told. IsWithPort host.now told.items) CanNotTell }
 {
-    let Ok(local) = listener.local_addr() else {
+    let Some(port) = port else {
         return Err(Fault::NotListening(ListenFault::Failed));
     };
-    let port = format!(in alloc; ":{}", local.port())?;
+    let port = format!(in alloc; ":{port}")?;
     let mut told = Vec::new(alloc);
     told.extend_from_slice(host)?;
     told.extend_from_slice(port.as_bytes())?;
@@ -109,7 +101,7 @@ fn are_zeros(word: &[u8]) -> bool
 }
 
 /// Why nothing can be listened at, where the look-up of the address fails so.
-fn lookup_fault(kind: ErrorKind) -> ListenFault
+pub fn listen_lookup_fault(kind: ErrorKind) -> ListenFault
     ensures { result ≡ lookup_fault_at kind }
 {
     match kind {
@@ -119,13 +111,21 @@ fn lookup_fault(kind: ErrorKind) -> ListenFault
 }
 
 /// Why nothing can be listened at, where the address can't be bound so.
-fn listen_fault(kind: ErrorKind) -> ListenFault
+pub fn listen_fault(kind: ErrorKind) -> ListenFault
     ensures { result ≡ listen_fault_at kind }
 {
     match kind {
         ErrorKind::AddrInUse => ListenFault::AddressInUse,
         ErrorKind::PermissionDenied => ListenFault::NotPermitted,
         _ => ListenFault::Failed,
+    }
+}
+
+/// The port at which a listener takes connections, where it is known.
+pub fn port_of<L: OpenListener>(listener: &L) -> Option<u16> {
+    match listener.local_addr() {
+        Ok(local) => Some(local.port()),
+        Err(_) => None,
     }
 }
 

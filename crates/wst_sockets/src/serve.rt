@@ -6,7 +6,7 @@ ghost use Rattle.ws_frame.specs.Watching.{has_failed};
 ghost use Rattle.wst_sockets.specs.Serve.{CanNotServe, IsServePlan, RunsServer, ServesAt};
 
 use crate::clients::{ListenerClients, Waits};
-use crate::listening::{listen, told_address};
+use crate::listening::{listen, port_of, told_address};
 use crate::serving_clients::{serve_clients, tell_listening};
 use std::alloc::Global;
 use std::io::Write;
@@ -95,7 +95,7 @@ fn serve_at<N: Net, W: Write>(
         Ok(listener) => listener,
         Err(why) => return Err(Fault::NotListening(why)),
     };
-    let address = told_address(alloc, &listener, plan.address)?;
+    let address = told_address(alloc, port_of(&listener), plan.address)?;
     let told = tell_listening(alloc, address.as_slice(), writer)?;
     if writer.failed() {
         return Ok(told);

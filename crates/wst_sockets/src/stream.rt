@@ -6,7 +6,7 @@ ghost use Rattle.std.specs.Io.KnownBytes.{Keeps, ReadConsumes, WriteAppends};
 ghost use Rattle.wst_sockets.specs.Resuming.{IsUninterrupted};
 
 use crate::resuming::{flush_resumed, read_resumed, write_resumed};
-use std::cell::{Cell, RefCell};
+use std::cell::RefCell;
 use std::io;
 use std::io::{ErrorKind, Read, Write};
 use std::net::{OpenStream, Shutdown};
@@ -93,62 +93,5 @@ impl<S: Write + OpenStream> EndsDirection for Side<'_, S> {
             Ok(stream) => stream.shutdown(Shutdown::Write),
             Err(_) => Err(io::Error::from(ErrorKind::Other)),
         }
-    }
-}
-
-/// A reader or a writer that notes of which kind the first error was that a call through it answered, or through
-/// another that notes it in the same place.
-#[derive(Drop)]
-pub struct Noted<'a, T> {
-    inner: T,
-    failure: &'a Cell<Option<ErrorKind>>,
-}
-
-impl<'a, T> Noted<'a, T> {
-    /// Notes it here.
-    pub fn of(inner: T, failure: &'a Cell<Option<ErrorKind>>) -> Noted<'a, T> {
-        Noted { inner, failure }
-    }
-
-    /// What notes it here.
-    pub(crate) fn inner(&self) -> &T {
-        &self.inner
-    }
-
-    /// Notes the error that a call answered.
-    fn note<A>(&self, answer: &io::Result<A>) {
-        if let Err(error) = answer {
-            if self.failure.get().is_none() {
-                self.failure.set(Some(error.kind()));
-            }
-        }
-    }
-}
-
-impl<R: Read> Read for Noted<'_, R> {
-    fn read(&mut self, buf: &mut [u8]) -> io::Result<usize> {
-        let answer = self.inner.read(buf);
-        self.note(&answer);
-        answer
-    }
-}
-
-impl<W: Write> Write for Noted<'_, W> {
-    fn write(&mut self, buf: &[u8]) -> io::Result<usize> {
-        let answer = self.inner.write(buf);
-        self.note(&answer);
-        answer
-    }
-
-    fn flush(&mut self) -> io::Result<()> {
-        let answer = self.inner.flush();
-        self.note(&answer);
-        answer
-    }
-}
-
-impl<W: EndsDirection> EndsDirection for Noted<'_, W> {
-    fn end_direction(&mut self) -> io::Result<()> {
-        self.inner.end_direction()
     }
 }

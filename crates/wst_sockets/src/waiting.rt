@@ -1,27 +1,19 @@
 //! The waits for a tested end: each has a limit of time, or once in a run it is told that it goes on.
 
-ghost use Rattle.std.specs.Prelude.{◌≡◌, ◌≤◌, List, ℕ, [], None, OnErr, OnOk, length};
-ghost use Rattle.std.specs.Io.{ReadsAtMost};
-ghost use Rattle.std.specs.Io.KnownBytes.{ReadConsumes};
+ghost use Rattle.std.specs.Prelude.{◌≡◌, ◌≤◌, List, ℕ, [], OnErr, OnOk, length};
 ghost use Rattle.ws_frame.specs.Devices.{watched};
 ghost use Rattle.wst_commands.specs.declared.time_limit.TimeLimit.{TimeLimit};
 ghost use Rattle.wst_commands.specs.declared.time_limit.TimeLimit.TheVariants.{Seconds};
-ghost use Rattle.wst_sockets.specs.Resuming.{IsUninterrupted};
 ghost use Rattle.wst_sockets.specs.Waiting.{TellsWait, after_wait, notes_of_waits, notice_of};
 
-use crate::one_call::{CallEnd, end_of_call, read_now, some_time};
-use crate::pace::{Left, Pace, PaceTimer, is_within};
 use crate::resuming::Resumed;
-use crate::stream::Noted;
 use std::alloc::Global;
-use std::cell::{Cell, RefCell};
-use std::io;
-use std::io::{ErrorKind, Read, Write};
-use std::net::{Net, OpenStream};
+use std::cell::Cell;
+use std::io::Write;
+use std::net::Net;
 use std::rt::{HostRuntime, Stderr};
-use std::time::{Clock, Duration};
+use std::time::Clock;
 use ws_base::NoMemory;
-use ws_connection::WaitingRead;
 use ws_frame::Watched;
 use ws_suite::Case;
 use wst_commands::{TimeLimit, tell};
@@ -172,126 +164,5 @@ impl<'a, N: Network> WaitTeller<'a, N> {
         let mut output = Watched::new(self.net.notices());
         let _ = tell_wait(self.alloc, &mut notice, name, &mut output);
         self.notice.set(notice);
-    }
-}
-
-/// What a read says that has waited in vain.
-#[derive(Clone, Copy)]
-enum InVain {
-    /// Nothing: it is told that it waits, and it goes on.
-    GoesOn,
-    /// That the time limit has passed.
-    Waited,
-    /// That the connection is over.
-    Late,
-}
-
-/// The side of a tested end's stream that is read: no longer than is left of the wait that goes on, and of the
-/// connection. Where its wait is still to be told, a read waits for ten seconds, tells it, and goes on.
-#[derive(Drop)]
-pub struct PatientReader<'a, S, N> {
-    stream: &'a RefCell<S>,
-    pace: &'a Pace<'a, N>,
-    teller: WaitTeller<'a, N>,
-    limit: Option<Duration>,
-}
-
-impl<'a, S, N> PatientReader<'a, S, N> {
-    /// That of this stream, whose reads have no limit yet.
-    pub fn of(
-        stream: &'a RefCell<S>,
-        pace: &'a Pace<'a, N>,
-        teller: WaitTeller<'a, N>,
-    ) -> PatientReader<'a, S, N> {
-        PatientReader {
-            stream,
-            pace,
-            teller,
-            limit: None,
-        }
-    }
-}
-
-impl<S: OpenStream, N: Network> PatientReader<'_, S, N> {
-    /// Has a read wait for what is left, or for ten seconds where that is less and a wait is still to be told. What it
-    /// says if that is in vain: without a limit nothing.
-    fn limit(&mut self, left: Left) -> InVain {
-        let mut time = left.wait;
-        let mut in_vain = if time.is_some() {
-            InVain::Waited
-        } else {
-            InVain::GoesOn
-        };
-        if let Some(rest) = left.connection {
-            if is_within(rest, time) {
-                (time, in_vain) = (Some(rest), InVain::Late);
-            }
-        }
-        let patience = Duration::from_secs(PATIENCE);
-        if self.teller.is_pending() && is_within(patience, time) {
-            (time, in_vain) = (Some(patience), InVain::GoesOn);
-        }
-        if time != self.limit {
-            set_read_limit(self.stream, time);
-            self.limit = time;
-        }
-        in_vain
-    }
-}
-
-/// Has each read of a stream wait for so long, a moment at least, or as long as it takes.
-fn set_read_limit<S: OpenStream>(stream: &RefCell<S>, time: Option<Duration>) {
-    if let Ok(stream) = stream.try_borrow_mut() {
-        let _ = stream.set_read_timeout(some_time(time));
-    }
-}
-
-/// No contract of a stream says which bytes pass. A call that a signal interrupts is made again, for the time that is
-/// left. An error of the kind `TimedOut` of the stream itself, a connection that broke, is told as another one.
-impl<S: Read + OpenStream, N: Network> Read for PatientReader<'_, S, N> {
-    fn read(&mut self, buf: &mut [u8]) -> io::Result<usize>
-        ensures bound { ReadsAtMost result buf.new }
-        ensures bytes { ReadConsumes None None result buf.new }
-        ensures uninterrupted { IsUninterrupted result }
-    {
-        let begun = self.pace.wait_begun();
-        for _ in 0..u64::MAX {
-            let left = self.pace.left(begun);
-            if left.is_over() {
-                return Err(io::Error::from(ErrorKind::TimedOut));
-            }
-            if left.is_spent() && !self.pace.looks_once_more() {
-                return Err(io::Error::from(ErrorKind::WouldBlock));
-            }
-            let in_vain = self.limit(left);
-            match end_of_call(read_now(self.stream, buf)) {
-                CallEnd::Moved(count) => return Ok(count),
-                CallEnd::Failed(error) => return Err(error),
-                CallEnd::Interrupted => {}
-                CallEnd::WaitedInVain => match in_vain {
-                    InVain::GoesOn => self.teller.tell(),
-                    InVain::Waited => return Err(io::Error::from(ErrorKind::WouldBlock)),
-                    InVain::Late => return Err(io::Error::from(ErrorKind::TimedOut)),
-                },
-            }
-        }
-        Err(io::Error::from(ErrorKind::Other))
-    }
-}
-
-impl<'a, S: Read + OpenStream, N: Network> WaitingRead for PatientReader<'a, S, N> {
-    type Timer = PaceTimer<'a, N>;
-
-    fn timer(&self) -> PaceTimer<'a, N> {
-        PaceTimer::of(self.pace)
-    }
-}
-
-/// For a reader of any kind the prover doesn't settle how long such a timer lives.
-impl<'a, S: Read + OpenStream, N: Network> WaitingRead for Noted<'a, PatientReader<'a, S, N>> {
-    type Timer = PaceTimer<'a, N>;
-
-    fn timer(&self) -> PaceTimer<'a, N> {
-        self.inner().timer()
     }
 }

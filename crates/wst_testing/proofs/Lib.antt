@@ -9,5 +9,4 @@ pub mod ReportLemmas
 pub mod LoopLemmas
 pub mod OutputLemmas
 pub mod ShownLoopLemmas
-pub mod LineLemmas
 pub mod SweepLemmas

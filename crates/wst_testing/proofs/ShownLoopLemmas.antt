@@ -45,8 +45,8 @@ use Rattle.wst_sockets.specs.Meetings.{probe_of}
 use Rattle.wst_sockets.specs.declared.meeting.ConnectFault.{ConnectFault}
 use Rattle.wst_sockets.specs.declared.meeting.Meeting.{Meeting}
 use Rattle.wst_testing.specs.LineOutputs.{EndsOutput, HasWrittenTaken, MayStopLines, ShowsMeeting, untaken_lines}
-use Rattle.wst_testing.specs.declared.line_writer.LineStop.{LineStop}
-use Rattle.wst_testing.specs.declared.line_writer.LineStop.TheVariants as stop
+use Rattle.wst_testing.specs.declared.line_output.LineStop.{LineStop}
+use Rattle.wst_testing.specs.declared.line_output.LineStop.TheVariants as stop
 use Rattle.wst_testing.specs.Servers.{AddressValue, IsShownMeeting, IsShownSo, ShowsAtAddress, ShowsBecause, TookThese}
 use Rattle.wst_testing.specs.Servers.{limits_of_server, meeting_at, plan_at, reason_of_end, reason_of_miss}
 use Rattle.wst_testing.proofs.LoopLemmas.{ended_listed, made_later, probe_at}

@@ -15,8 +15,8 @@ use Rattle.wst_sockets.specs.declared.meeting.ConnectFault.TheVariants as why
 use Rattle.wst_sockets.specs.declared.meeting.Meeting.{Meeting}
 use Rattle.wst_sockets.specs.declared.meeting.Meeting.TheVariants.{NoConnection, Ran, Refused}
 use Rattle.wst_testing.specs.LineWriting.{HasWrittenRun}
-use Rattle.wst_testing.specs.declared.line_writer.LineStop.{LineStop}
-use Rattle.wst_testing.specs.declared.line_writer.LineStop.TheVariants as stop
+use Rattle.wst_testing.specs.declared.line_output.LineStop.{LineStop}
+use Rattle.wst_testing.specs.declared.line_output.LineStop.TheVariants as stop
 
 -- these lines were written, and no call has failed
 abbrev pub HasWrittenOn : {W : Type 0} → (W → Option (List ℕ)) → Watched W → Watched W → List ℕ → Type 0

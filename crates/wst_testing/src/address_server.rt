@@ -15,8 +15,7 @@ ghost use Rattle.wst_sockets.specs.Connecting.{connect_fault_at};
 ghost use Rattle.wst_sockets.specs.declared.meeting.Meeting.TheVariants.{NoConnection};
 
 use crate::case_server::CaseServer;
-use crate::line_output::LineOutput;
-use crate::line_writer::LineStop;
+use crate::line_output::{LineOutput, LineStop};
 use crate::run_plans::RunPlan;
 use std::alloc::Global;
 use std::cell::Cell;
@@ -200,7 +199,7 @@ impl Bounds {
 }
 
 /// A limit of time in milliseconds.
-fn milliseconds(limit: TimeLimit) -> Option<u64>
+pub fn milliseconds(limit: TimeLimit) -> Option<u64>
     ensures { result ≡ milliseconds_of limit }
 {
     match limit {

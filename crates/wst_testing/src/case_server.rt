@@ -8,8 +8,7 @@ ghost use Rattle.wst_testing.specs.LineOutputs.{MayStopLines, ShowsMeeting};
 ghost use Rattle.wst_testing.specs.LineWriting.{HasWrittenRun};
 ghost use Rattle.wst_testing.specs.Servers.{IsMemoryRun, IsPeerRun, MeetsInMemory};
 
-use crate::line_output::flush;
-use crate::line_writer::LineStop;
+use crate::line_output::{LineStop, flush};
 use std::alloc::Global;
 use std::io::Write;
 use ws_base::NoMemory;

@@ -6,7 +6,7 @@
 //! one; `run_cases`, which runs cases over an end and tells a `Sink` of each; `test_cases`, `capture_case` and
 //! `sweep_scripts`, runs of cases; `Outcome`, `Tally` and `Score`, what came of them; `report_case` and `close_report`,
 //! what a report has of them; `LineOutput`, the output as the sink of a loop's
-//! lines, and `LineWriter`, which is told of a run turn by turn; `known_given`, the deviations that are
+//! lines; `known_given`, the deviations that are
 //! known of an end.
 #![tactic(auto)]
 
@@ -18,7 +18,6 @@ mod hinting;
 mod known_input;
 pub mod laws;
 mod line_output;
-mod line_writer;
 mod outcome;
 mod run_plans;
 mod runner;
@@ -28,13 +27,13 @@ mod sweeping;
 mod testing;
 mod tried;
 
-pub use address_server::AddressServer;
+pub use address_server::{AddressServer, TellingPoller, milliseconds};
 pub use capturing::{capture_case, capture_text, tell_capture};
 pub use case_server::{CaseServer, MemoryEnd, MemoryPeer};
 pub use head_rules::head_rule;
 pub use hinting::{misses_echo, tell_missed_echo};
 pub use known_input::{KnownStop, known_given, tell_known_stop};
-pub use line_writer::{LineStop, LineWriter};
+pub use line_output::{LineOutput, LineStop};
 pub use outcome::{
     Outcome, Reported, Score, Tally, ToldRefusal, behind_text, close_report, is_fail, report_case,
     tell_beside, total_line,

@@ -6,10 +6,51 @@ ghost use Rattle.ws_frame.specs.Devices.{HasWritten, watched};
 ghost use Rattle.ws_frame.specs.Watching.{has_failed, inner_of};
 ghost use Rattle.wst_testing.specs.LineOutputs.{HasWrittenOn, HasWrittenTaken, WritesRest};
 
-use crate::line_writer::LineStop;
 use std::io::Write;
+use ws_base::NoMemory;
 use ws_frame::{Watched, WriteFault, write_whole};
-use ws_loops::LineSink;
+use ws_loops::{LineSink, WaitFailed};
+
+/// Why no more lines are written.
+#[derive(Clone, Copy, PartialEq, Eq)]
+pub enum LineStop {
+    /// The output failed.
+    Output,
+    /// Memory ran out; a run whose places 64 bits can't tell has no room in any.
+    NoMemory,
+    /// The network could not be waited for.
+    Network,
+}
+
+impl From<WaitFailed> for LineStop {
+    ghost use Rattle.wst_testing.specs.declared.line_output.LineStop.TheVariants as stop;
+
+    ghost from_gives = { λ _ given. given ≡ stop.Network };
+
+    fn from(_failed: WaitFailed) -> LineStop {
+        LineStop::Network
+    }
+}
+
+impl From<NoMemory> for LineStop {
+    ghost use Rattle.wst_testing.specs.declared.line_output.LineStop.TheVariants as stop;
+
+    ghost from_gives = { λ _ given. given ≡ stop.NoMemory };
+
+    fn from(_refused: NoMemory) -> LineStop {
+        LineStop::NoMemory
+    }
+}
+
+impl From<WriteFault> for LineStop {
+    ghost use Rattle.wst_testing.specs.declared.line_output.LineStop.TheVariants as stop;
+
+    ghost from_gives = { λ _ given. given ≡ stop.Output };
+
+    fn from(_failed: WriteFault) -> LineStop {
+        LineStop::Output
+    }
+}
 
 /// The place of a machine that is alone in its loop.
 pub(crate) const ONLY: usize = 0;
@@ -47,7 +88,7 @@ impl<W: Write> LineOutput<'_, W> {
 
 impl<W: Write> LineOutput<'_, W> {
     /// Writes the last lines, if there are any, and flushes them.
-    pub(crate) fn write_last(&mut self, last: &[u8]) -> Result<(), WriteFault>
+    pub fn write_last(&mut self, last: &[u8]) -> Result<(), WriteFault>
         ensures written { OnOk result (WritesRest W.contents self.old.writer.now self.new.writer.now last.now) }
         ensures borrow { self.new.writer.ghost_name ≡ self.old.writer.ghost_name }
     {

@@ -13,7 +13,7 @@ ghost use Rattle.wst_testing.specs.Runner.{MovesOn, RunsEach};
 
 use crate::address_server::AddressServer;
 use crate::case_server::{CaseServer, MemoryEnd};
-use crate::line_writer::LineStop;
+use crate::line_output::LineStop;
 use crate::run_plans::{RunPlan, TestedEnd};
 use std::alloc::Global;
 use std::io::Write;

@@ -16,13 +16,13 @@ returns-in_err-start-clause-documents g c =
     let lacks : IsErrAnd c.from_residual.result (λ fault. fault ≡ NoMemory) = search rules in
     let output = watched g.W.Write.contents c.args.writer.now c.args.writer.now in
     inr (
-      stops_lacking c.args.target.now c.args.report.now c.from_residual.result output lacks (Keeps-refl output.old),
+      stops_lacking c.args.document.target.now c.args.document.report.now c.from_residual.result output lacks (Keeps-refl output.old),
       Keeps-refl (g.F.Write.contents (inner_of c.args.faults.now)),
     )
 
 pub returns-then-failed-clause-documents : goal.returns-then-failed-clause-documents
 returns-then-failed-clause-documents g c =
-    let start = start_text c.args.report.now c.args.target.now in
+    let start = start_text c.args.document.report.now c.args.document.target.now in
     let text : c.as_bytes.result.now ≡ start = search rules in
     let output = watched g.W.Write.contents c.args.writer.now c.deliver-begun.new.writer in
     let given = delivers_same Done Done c.as_bytes.result.now start c.deliver-begun.result output refl text
@@ -30,14 +30,14 @@ returns-then-failed-clause-documents g c =
     let broken : has_failed c.deliver-begun.new.writer ≡ true = sym c.failed.ensures ∙ c.if-failed.true in
     let (fails, begun) = was_begun Done c.deliver-begun.result start output given broken in
     inr (
-      stops_failed c.args.target.now c.args.report.now c.deliver-begun.result output fails begun broken,
+      stops_failed c.args.document.target.now c.args.document.report.now c.deliver-begun.result output fails begun broken,
       Keeps-refl (g.F.Write.contents (inner_of c.args.faults.now)),
     )
 
 pub returns-clause-documents : goal.returns-clause-documents
 returns-clause-documents g c =
-    let report = c.args.report.now in
-    let start = start_text report c.args.target.now in
+    let report = c.args.document.report.now in
+    let start = start_text report c.args.document.target.now in
     let text : c.as_bytes.result.now ≡ start = search rules in
     let first = watched g.W.Write.contents c.args.writer.now c.deliver-begun.new.writer in
     let given = delivers_same Done Done c.as_bytes.result.now start c.deliver-begun.result first refl text

@@ -1,5 +1,5 @@
 -- The next case is counted, if it was run.
-use Rattle.std.proofs.Common.{◌≡◌, ◌≤◌, Bool, arith, false, if◌then◌else◌, subst, sym, true, ℕ, ◌+◌}
+use Rattle.std.proofs.Common.{◌≤◌, Bool, arith, false, if◌then◌else◌, true, ℕ, ◌+◌}
 use Rattle.wst_clients.proofs.ClientLemmas.{run_step}
 use Rattle.wst_clients.specs.LateClients.{was_run}
 use Rattle.wst_clients.proofs.late_clients.run_count.Goals as goal

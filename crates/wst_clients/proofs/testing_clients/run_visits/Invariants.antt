@@ -1,9 +1,8 @@
--- The connections so far came and were told, and none of them has ended the run.
+-- The turns so far were taken and told, and none of them has ended the run.
 use Rattle.std.proofs.Common.{◌≡◌, ◌-◌, ◌<◌, ◌≤◌, false, length}
 use Rattle.ws_frame.specs.Devices.{watched}
 use Rattle.ws_frame.specs.Watching.{has_failed, inner_of}
 use Rattle.wst_commands.specs.Devices.{StaysFailed}
-use Rattle.wst_clients.specs.VisitOutcomes.{ComesTo}
 use Rattle.wst_clients.proofs.ClientLemmas.{HasVisitedSo}
 use Rattle.wst_clients.proofs.testing_clients.run_visits.Given as goal
 
@@ -12,9 +11,10 @@ invariant-loop-visited g l = record {
   works : has_failed l.writer ≡ false;
   bound : l.visited ≤ 4611686018427387904;
   fits : length l.rules.cases.now < 4294967296;
-  run : HasVisitedSo (ComesTo (g.C.TestedClients.visits l.clients l.rules) l.rules) l.rules l.visited l.standing l.score
+  run : HasVisitedSo (record { visits = g.C.TestedClients.visits; passes = g.C.TestedClients.passes }) l.rules l.visited l.standing l.score
       (g.W.Write.contents (inner_of l.initial.writer)) (g.W.Write.contents (inner_of l.writer))
       (watched g.F.Write.contents l.initial.faults l.faults);
+  are : g.C.TestedClients.are l.rules l.clients;
   still : StaysFailed l.initial.faults l.faults;
 }
 

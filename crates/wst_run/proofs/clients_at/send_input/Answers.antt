@@ -11,6 +11,8 @@ returns-in-Ok-clause-sends g c =
     inl (
       c.in-Ok.text.items,
       c.in-Ok.ensures,
-      subst (λ (l : List ℕ). SendsTextAt c.args.address.now c.args.plan.now l c.send_text.result output faults)
+      subst
+          (λ (l : List ℕ).
+          SendsTextAt c.args.site.now.address.now c.args.plan.now l c.send_text.result output faults)
           c.as_slice.ensures.value c.send_text.ensures.sends,
     )

@@ -1,18 +1,27 @@
--- What is told of the address is told.
-use Rattle.std.proofs.Common.{◌∙◌, ℕ, List, ap, inl, subst, sym}
-use Rattle.ws_frame.specs.Devices.{watched}
-use Rattle.wst_commands.specs.declared.time_limit.TimeLimit.{TimeLimit}
-use Rattle.wst_run.specs.ClientRuns.{TestsToldAt}
-use Rattle.wst_sockets.specs.declared.clients.Waits.{Waits}
-use Rattle.wst_sockets.specs.Listening.{IsToldFor}
+-- The rules and the job are those of the plan.
+use Rattle.std.proofs.Common.{All, List, subst, sym}
+use Rattle.ws_scripts.specs.Scripts.{CanBeRun}
+use Rattle.ws_scripts.specs.declared.script.Case.{Case}
+use Rattle.wst_run.proofs.ClientRunLemmas.{job_for}
 use Rattle.wst_run.proofs.clients_at.test_at.Goals as goal
 
+pub visit_at-requires-clause-can : goal.visit_at-requires-clause-can
+visit_at-requires-clause-can g c = subst (λ (l : List Case). All CanBeRun l) (sym c.visit_rules-rules.ensures.rules.cases)
+    c.requires.plan.0
+
+pub visit_at-requires-clause-one : goal.visit_at-requires-clause-one
+visit_at-requires-clause-one g c = job_for c.args.plan.now c.args.report.now c.client_job-job.result
+    c.visit_rules-rules.result c.requires.plan c.visit_rules-rules.ensures.rules c.client_job-job.ensures
+
+pub visit_at-requires-clause-protocols : goal.visit_at-requires-clause-protocols
+visit_at-requires-clause-protocols g c = c.visit_rules-rules.ensures.rules.protocols
+
+pub visit_at-requires-clause-wait : goal.visit_at-requires-clause-wait
+visit_at-requires-clause-wait g c = c.visit_rules-rules.ensures.rules.wait
+
 pub returns-clause-tests : goal.returns-clause-tests
-returns-clause-tests g c =
-    let told : IsToldFor c.args.address.now c.as_slice.result.now = subst
-    (λ (l : List ℕ). IsToldFor c.args.address.now l) (sym c.as_slice.ensures.value) c.in_ok-told.ensures in
-    let tests = subst (λ (wait : TimeLimit). TestsToldAt wait c.as_slice.result.now c.args.plan.now c.args.report.now
-    c.test_told.result (watched g.W.Write.contents c.args.writer.now c.test_told.new.writer)
-    (watched g.F.Write.contents c.args.faults.now c.test_told.new.faults))
-    (c.of-clients.ensures ∙ ap (λ (waits : Waits). waits.client) c.waits_of.ensures) c.test_told.ensures.tests in
-    inl (c.as_slice.result.now, told, tests)
+returns-clause-tests g c = (
+  c.visit_rules-rules.result,
+  c.visit_rules-rules.ensures.rules,
+  (c.client_job-job.result, c.client_job-job.ensures, c.visit_at.ensures.tests),
+)

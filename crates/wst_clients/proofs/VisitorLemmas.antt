@@ -1,0 +1,223 @@
+-- Those who come to a listener stay those who are tested, whatever is done with them; who waits for its turn, in which
+-- order; and for how long a request is waited for.
+use Rattle.std.proofs.Common.{◌≡◌, ◌∙◌, ℕ, Bool, true, false, List, [], ◌∷◌, ◌++◌, Option, None, All, ap, append_assoc}
+use Rattle.std.proofs.Common.{if◌then◌else◌, refl, subst, sym}
+use Rattle.std.proofs.lemmas.Bool.{false≢true}
+use Rattle.std.proofs.lemmas.List.Elements.{All-head, All-nil, All-push, All-tail}
+use Rattle.std.specs.Prelude.{IsTrue, Vec, ◌==◌}
+use Rattle.std.specs.declared.alloc.Global.{Global}
+use Rattle.ws_handshake.specs.declared.admission.AcceptedRequest.{AcceptedRequest}
+use Rattle.ws_clients.specs.Clients.{HasBecome}
+use Rattle.ws_clients.specs.Talks.{IsAdmission}
+use Rattle.ws_clients.specs.declared.clients.Event.{Event}
+use Rattle.ws_clients.specs.declared.clients.Event.TheVariants as events
+use Rattle.ws_handshake.specs.declared.admission.Admission.{Admission}
+use Rattle.ws_loops.specs.Deeds.{Deed}
+use Rattle.ws_loops.specs.Listeners.{AcceptDeed}
+use Rattle.ws_loops.specs.Paces.{has_ended_by}
+use Rattle.ws_paths.specs.Standings.{StandingValue}
+use Rattle.wst_commands.specs.TimeLimits.{is_limited}
+use Rattle.wst_commands.specs.declared.time_limit.TimeLimit.{TimeLimit}
+use Rattle.wst_commands.specs.declared.time_limit.TimeLimit.TheVariants.{Seconds, Unlimited}
+use Rattle.wst_testing.specs.Servers.{DidThese, milliseconds_of}
+use Rattle.wst_clients.specs.Turns.{IsWhyNone}
+use Rattle.wst_clients.specs.Visits.{known_by}
+use Rattle.wst_clients.proofs.TurnLemmas.{admitted}
+use Rattle.wst_clients.specs.Visitors.{AreTestedBy, AreVisitors, AsksNoCase, HaveWaited, IsEndAskedSo}
+use Rattle.wst_clients.specs.Visitors.{PassedOver, StayAll, StayVisitors, StayWhere, WaitsLast}
+use Rattle.wst_clients.specs.Visitors.{WasAccepted, WasEndAsked, ending_with, ending_without, wait_until}
+use Rattle.wst_clients.specs.declared.visiting.NoVisit.TheVariants.{Never, TooLate}
+use Rattle.wst_clients.specs.declared.visiting.VisitRules.{VisitRules}
+use Rattle.wst_clients.specs.declared.visitors.Ending.{Ending}
+use Rattle.wst_clients.specs.declared.visitors.Ending.TheVariants.{Answered, Answering, NotAsked}
+use Rattle.wst_clients.specs.declared.visitors.Visitors.{Visitors}
+use Rattle.wst_clients.specs.declared.visitors.Waiting.{Waiting}
+
+-- ---- that they stay
+
+-- all of these were accepted
+abbrev pub AllAccepted : List (List ℕ) → List Waiting → Type 0
+AllAccepted known waiting = All (λ (w : Waiting). WasAccepted known w.request) waiting
+
+module _ {M L P E S W : Type 0} (old new : Visitors M L P E S W) where
+  -- where others wait, and the end is asked for so
+  pub are_by : (known : List (List ℕ)) (wait : Option ℕ) → new.clients.known ≡ old.clients.known → new.wait ≡ old.wait
+      → AllAccepted known new.waiting.items → IsEndAskedSo known new.ending
+      → AreVisitors known wait old → AreVisitors known wait new
+  are_by known wait same_known same_wait waiting ending are = record {
+    is_known = same_known ∙ are.is_known;
+    is_wait = same_wait ∙ are.is_wait;
+    waiting = waiting;
+    ending = ending;
+  }
+
+  -- where those who wait, and the end, are as they were
+  pub same_accepted : (known : List (List ℕ)) → new.waiting ≡ old.waiting → AllAccepted known old.waiting.items
+      → AllAccepted known new.waiting.items
+  same_accepted known same all = subst (λ (v : Vec Waiting Global). AllAccepted known v.items) (sym same) all
+
+  pub same_end : (known : List (List ℕ)) → new.ending ≡ old.ending → IsEndAskedSo known old.ending
+      → IsEndAskedSo known new.ending
+  same_end known same asked = subst (λ (e : Ending). IsEndAskedSo known e) (sym same) asked
+
+  pub are_still : (known : List (List ℕ)) (wait : Option ℕ) → StayAll old new → AreVisitors known wait old
+      → AreVisitors known wait new
+  are_still known wait s are = are_by known wait s.is_known s.is_wait (same_accepted known s.waiting are.waiting)
+      (same_end known s.ending are.ending) are
+
+  -- so with another wait
+  pub stay_queue : new.clients.known ≡ old.clients.known → new.wait ≡ old.wait → new.listener ≡ old.listener
+      → new.waiting ≡ old.waiting → new.ending ≡ old.ending → StayVisitors old new
+  stay_queue known wait listener waiting ending = record {
+    is_known = known;
+    is_wait = wait;
+    listener = listener;
+    stay = λ names limit are. are_by names limit known wait (same_accepted names waiting are.waiting)
+        (same_end names ending are.ending) are;
+  }
+
+  -- where one of them is left
+  pub left_end : (known : List (List ℕ)) (at : ℕ) (ending : Ending) → IsEndAskedSo known ending
+      → IsEndAskedSo known (ending_without at ending)
+  left_end known at NotAsked asked = tt
+  left_end known at (Answering other) asked = by (other == at)
+    where
+      by : (b : Bool) → IsEndAskedSo known (if b then Answered else Answering other)
+      by true = asked
+      by false = asked
+  left_end known at Answered asked = asked
+
+  pub stay_left : (at : ℕ) → new.clients.known ≡ old.clients.known → new.wait ≡ old.wait → new.listener ≡ old.listener
+      → new.waiting ≡ old.waiting → new.ending ≡ ending_without at old.ending → StayVisitors old new
+  stay_left at known wait listener waiting ending = record {
+    is_known = known;
+    is_wait = wait;
+    listener = listener;
+    stay = λ names limit are. are_by names limit known wait (same_accepted names waiting are.waiting)
+        (subst (λ (e : Ending). IsEndAskedSo names e) (sym ending) (left_end names at old.ending are.ending)) are;
+  }
+
+  -- where one of those who wait doesn't any more
+  pub stay_first : (first : Waiting) → old.waiting.items ≡ first ∷ new.waiting.items
+      → new.clients.known ≡ old.clients.known → new.wait ≡ old.wait → new.ending ≡ old.ending
+      → new.listener ≡ old.listener → StayVisitors old new
+  stay_first first is known wait ending listener = record {
+    is_known = known;
+    is_wait = wait;
+    listener = listener;
+    stay = λ names limit are. are_by names limit known wait
+        (All-tail (λ (w : Waiting). WasAccepted names w.request) first new.waiting.items
+        (subst (λ (l : List Waiting). AllAccepted names l) is are.waiting)) (same_end names ending are.ending) are;
+  }
+
+  -- and its request was accepted
+  pub was_first : (first : Waiting) (known : List (List ℕ)) (wait : Option ℕ)
+      → old.waiting.items ≡ first ∷ new.waiting.items → AreVisitors known wait old → WasAccepted known first.request
+  was_first first known wait is are = All-head (λ (w : Waiting). WasAccepted known w.request) first new.waiting.items
+      (subst (λ (l : List Waiting). AllAccepted known l) is are.waiting)
+
+  -- where one more waits
+  pub are_more : (known : List (List ℕ)) (wait : Option ℕ) (at : ℕ) (request : AcceptedRequest)
+      → new.clients.known ≡ old.clients.known → new.wait ≡ old.wait
+      → WaitsLast at request old.waiting.items new.waiting.items → new.ending ≡ old.ending
+      → WasAccepted known request → AreVisitors known wait old → AreVisitors known wait new
+  are_more known wait at request same_known same_wait is same_ending accepted are =
+      are_by known wait same_known same_wait
+      (subst (λ (l : List Waiting). AllAccepted known l) (sym is)
+      (All-push (λ (w : Waiting). WasAccepted known w.request) old.waiting.items
+      (record { at = at; request = request }) are.waiting accepted))
+      (same_end known same_ending are.ending) are
+
+  asked_so : (known : List (List ℕ)) (at : ℕ) (before : Ending) → WasEndAsked known
+      → IsEndAskedSo known (ending_with at before)
+  asked_so known at NotAsked asked = asked
+  asked_so known at (Answering other) asked = asked
+  asked_so known at Answered asked = asked
+
+  -- where the end of the run is asked for
+  pub are_asked : (at : ℕ) → new.clients.known ≡ old.clients.known → new.wait ≡ old.wait → new.waiting ≡ old.waiting
+      → new.ending ≡ ending_with at old.ending → StayWhere WasEndAsked old new
+  are_asked at same_known same_wait same_waiting is known wait asked are = are_by known wait same_known same_wait
+      (same_accepted known same_waiting are.waiting)
+      (subst (λ (e : Ending). IsEndAskedSo known e) (sym is) (asked_so known at old.ending asked)) are
+
+-- ---- for how long a request is waited for
+
+-- where the time has come until which one was waited for, they have waited so long
+pub waited_by : {M L P E S W : Type 0} (time : P → ℕ) (old new : Visitors M L P E S W) (until : Option ℕ)
+    → until ≡ wait_until old.ending old.wait old.since → StayAll old new → has_ended_by until (time new.poller) ≡ true
+    → HaveWaited time new
+waited_by {M} {L} {P} {E} {S} {W} time old new until is stay ended =
+    ap (λ (u : Option ℕ). has_ended_by u (time new.poller))
+    (ap (λ (e : Ending). wait_until e new.wait new.since) stay.ending
+    ∙ ap (λ (w : Option ℕ). wait_until old.ending w new.since) stay.is_wait
+    ∙ ap (λ (s : ℕ). wait_until old.ending old.wait s) stay.since ∙ sym is) ∙ ended
+
+-- without a limit there is no such time
+never_until : (ending : Ending) (since : ℕ) → wait_until ending None since ≡ None
+never_until NotAsked since = refl
+never_until (Answering at) since = refl
+never_until Answered since = refl
+
+-- so there is a limit
+pub limited_by : (limit : TimeLimit) (ending : Ending) (wait : Option ℕ) (since now : ℕ) → wait ≡ milliseconds_of limit
+    → has_ended_by (wait_until ending wait since) now ≡ true → IsTrue (is_limited limit)
+limited_by Unlimited ending wait since now none ended =
+    absurd (false≢true (sym (ap (λ (u : Option ℕ). has_ended_by u now)
+    (ap (λ (w : Option ℕ). wait_until ending w since) none ∙ never_until ending since)) ∙ ended))
+limited_by (Seconds seconds) ending wait since now is ended = refl
+
+-- ---- what has happened
+
+module _ {M L P E S W : Type 0} (stream : S → S → List Deed → Type 0) (did : L → L → List (AcceptDeed W) → Type 0)
+    (time : P → ℕ) (rules : VisitRules) (old new : Visitors M L P E S W) (until : Option ℕ) (event : Event E W)
+    (become : HasBecome stream did (time new.poller) until new.listener new.clients event) (stay : StayAll old new)
+    (are : AreTestedBy rules old) where
+  -- there is no turn: it is too late, where the listener was asked in vain
+  pub late_now : event ≡ events.TooLate → until ≡ wait_until old.ending old.wait old.since
+      → IsWhyNone did time rules TooLate new
+  late_now is wait =
+      let (ended, vain) = subst (λ (e : Event E W). HasBecome stream did (time new.poller) until new.listener
+      new.clients e) is become in
+      let waited = waited_by time old new until wait stay ended in (
+        limited_by rules.wait new.ending new.wait new.since (time new.poller) (stay.is_wait ∙ are.is_wait) waited,
+        waited,
+        vain,
+      )
+
+  -- or none can come any more
+  pub deaf_now : (why : W) → event ≡ events.Deaf why → IsWhyNone did time rules Never new
+  deaf_now why is = (
+    why,
+    subst (λ (e : Event E W). HasBecome stream did (time new.poller) until new.listener
+        new.clients e) is become,
+  )
+
+  -- a request was decided
+  pub decided_now : (at : ℕ) (came : Admission) → event ≡ events.Decided at came
+      → IsAdmission DidThese (known_by rules) came
+  decided_now at came is = admitted stream (known_by rules) came
+      (subst (λ (names : List (List ℕ)). IsAdmission stream names came) (stay.is_known ∙ are.is_known)
+      (subst (λ (e : Event E W). HasBecome stream did (time new.poller) until new.listener new.clients e) is become))
+
+-- ---- the order of arrival
+
+module _ (rules : VisitRules) (standing : StandingValue) where
+  -- nobody was passed over
+  pub over_none : (waiting : List Waiting) → PassedOver rules standing waiting waiting
+  over_none waiting = ([], All-nil (AsksNoCase rules standing), refl)
+
+  -- one more was
+  pub over_more : (all left : List Waiting) (first : Waiting) (next : List Waiting)
+      → PassedOver rules standing all left → left ≡ first ∷ next → AsksNoCase rules standing first
+      → PassedOver rules standing all next
+  over_more all left first next (passed, each, is) same asks = (
+    passed ++ first ∷ [],
+    All-push (AsksNoCase rules standing) passed first each asks,
+    is ∙ ap (λ (l : List Waiting). passed ++ l) same ∙ sym (append_assoc passed (first ∷ []) next),
+  )
+
+  -- those who are left are these
+  pub over_same : (all left other : List Waiting) → PassedOver rules standing all left → left ≡ other
+      → PassedOver rules standing all other
+  over_same all left other over same = subst (λ (l : List Waiting). PassedOver rules standing all l) same over

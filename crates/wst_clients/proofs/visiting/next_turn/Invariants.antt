@@ -1,0 +1,19 @@
+-- So far those who were decided passed by, or wait, and nobody's turn was known.
+use Rattle.ws_frame.specs.Devices.{watched}
+use Rattle.wst_commands.specs.Devices.{StaysFailed}
+use Rattle.wst_clients.specs.Turns.{met_clients}
+use Rattle.wst_clients.specs.Visitors.{AreHeld, AreTestedBy}
+use Rattle.wst_clients.specs.Visits.{HavePassed}
+use Rattle.wst_clients.proofs.visiting.next_turn.Given as goal
+
+abbrev pub invariant-loop-left : goal.invariant-loop-left
+invariant-loop-left g l = record {
+  passed : HavePassed met_clients l.round.rules.now l.round.standing.now
+      (watched g.F.Write.contents l.initial.faults l.faults);
+  are : AreTestedBy l.round.rules.now l.visitors;
+  held : AreHeld g.L.Client.NonBlocking.did l.visitors;
+  still : StaysFailed l.initial.faults l.faults;
+}
+
+abbrev pub decreases-loop-left : goal.decreases-loop-left
+decreases-loop-left g l = l.left
