@@ -2,13 +2,14 @@
 //! comes behind it, on either side (RFC 6455 sections 4.1, 4.2 and 5 to 7). The device is any: a socket, or bytes in
 //! memory.
 //!
-//! The layer above uses: `serve_one` (the clauses with `Serves`), `probe` (`Probes`) over a `Connection`, `admit`
-//! (`Admits`) over one as a server, both over the machines of `ws_handshake`, and `run_script` (`Records`) over one
-//! whose handshake is done, `read_head` (the clauses with `ReadsHead`) with `RequestHead` and `ResponseHead`,
-//! `protocols_of`, whose `Protocols` they take, and `headers_of`, whose `RequestHeaders` a request has. A `Connection`
-//! is a stream of `ws_machines`: what it tells is what its devices did (`DidCalls`). Its devices keep its limits of
-//! time (`WaitingRead`). `drive_stage` (`RunsOnStage`) runs a tester on any `Stage`: `probe` and `run_script` are that
-//! over a connection and its observer. `probe_machine` is the machine of a probe for another loop (`BeginsProbe`).
+//! The layers above use `serve_one` (the clauses with `Serves`), `read_head` (those with `ReadsHead`) with
+//! `RequestHead` and `ResponseHead`, `probe_machine`, the machine of a probe for their loop (`BeginsProbe`),
+//! `protocols_of`, whose `Protocols` these take, and `headers_of`, whose `RequestHeaders` a request has. For a caller
+//! with one stream that waits there are drivers over the machines of `ws_handshake`: `probe` (`Probes`) over a
+//! `Connection`, `admit` (`Admits`) over one as a server, and `run_script` (`Records`) over one whose handshake is
+//! done. A `Connection` is a stream of `ws_machines`: what it tells is what its devices did (`DidCalls`). Its devices
+//! keep its limits of time (`WaitingRead`). `drive_stage` (`RunsOnStage`) runs a tester on any `Stage`: `probe` and
+//! `run_script` are that over a connection and its observer.
 #![tactic(auto)]
 
 mod admitting;
