@@ -7,7 +7,7 @@ use Rattle.ws_machines.specs.Machines.{Wants}
 use Rattle.ws_machines.specs.Told.Told.{NothingCame, Taken, WriteFailed}
 use Rattle.ws_loops.specs.Deeds.Deed.{Did, Passed}
 use Rattle.ws_loops.specs.Paces.{IsBefore, due_time, has_any_bytes, has_ended_by, has_passed, is_at, is_due}
-use Rattle.ws_loops.specs.Paces.{is_read_due}
+use Rattle.ws_loops.specs.Paces.{is_read_due, reads_first}
 use Rattle.ws_loops.specs.Paces.{is_wait_late, is_write_due, is_write_late, limit_at, passes_at, sooner}
 use Rattle.ws_loops.specs.Slots.{IsNextDeed}
 use Rattle.ws_loops.specs.declared.pace.Pace.{Pace}
@@ -47,7 +47,7 @@ vain_so wants p now h =
     let late = h.1.1.1 in
     let rest = second_of (not (has_any_bytes wants.write)) (nat_lt 0 wants.room
     && has_passed p.limit p.waits_since now) late in (
-      idle_is p.idle now (nat_lt 0 wants.room) (nat_lt 0 p.turn) (is_write_due wants p now) (is_wait_late wants p now)
+      idle_is p.idle now (nat_lt 0 wants.room) (reads_first p) (is_write_due wants p now) (is_wait_late wants p now)
           h.1.0 (first_of (nat_lt 0 wants.room) (has_passed p.limit p.waits_since now) rest) h.1.1.0 late,
       second_of (nat_lt 0 wants.room) (has_passed p.limit p.waits_since now) rest,
     )
@@ -65,23 +65,37 @@ tried_so wants p now h =
 none_left : (n : ℕ) → nat_lt 0 n ≡ false → n ≡ 0
 none_left n e = omega (arith, ltb-false 0 n e)
 
-read_first : (o : Option ℕ) (now room turn : ℕ) (w l : Bool)
-    → (nat_lt 0 room && ((not (is_some o) && (nat_lt 0 turn || not w)) || (l && not (is_at o now)))) ≡ false
-    → w ≡ true → (room ≡ 0) ⊎ (((time : ℕ) × (o ≡ Some time)) ⊎ (turn ≡ 0))
-read_first (Some time) now room turn w l e f = inr (inl (time, refl))
-read_first None now room turn true l e f = by (nat_lt 0 room) (nat_lt 0 turn) refl refl e
+not_first : (turn : ℕ) (emptied : Bool) → (nat_lt 0 turn && not emptied) ≡ false → (emptied ≡ true) ⊎ (turn ≡ 0)
+not_first turn true e = inl refl
+not_first turn false e = inr (by (nat_lt 0 turn) refl e)
   where
-    by : (r t : Bool) → nat_lt 0 room ≡ r → nat_lt 0 turn ≡ t → (r && ((true && (t || false)) || (l && true))) ≡ false
-        → (room ≡ 0) ⊎ (((time : ℕ) × (None ≡ Some time)) ⊎ (turn ≡ 0))
+    by : (b : Bool) → nat_lt 0 turn ≡ b → (b && true) ≡ false → turn ≡ 0
+    by true f h = absurd cc
+    by false f h = none_left turn f
+
+read_first : (o : Option ℕ) (now room : ℕ) (first w l : Bool)
+    → (nat_lt 0 room && ((not (is_some o) && (first || not w)) || (l && not (is_at o now)))) ≡ false
+    → w ≡ true → (room ≡ 0) ⊎ (((time : ℕ) × (o ≡ Some time)) ⊎ (first ≡ false))
+read_first (Some time) now room first w l e f = inr (inl (time, refl))
+read_first None now room first true l e f = by (nat_lt 0 room) first refl refl e
+  where
+    by : (r t : Bool) → nat_lt 0 room ≡ r → first ≡ t → (r && ((true && (t || false)) || (l && true))) ≡ false
+        → (room ≡ 0) ⊎ (((time : ℕ) × (None ≡ Some time)) ⊎ (first ≡ false))
     by false t e f h = inl (none_left room e)
-    by true false e f h = inr (inr (none_left turn f))
+    by true false e f h = inr (inr f)
     by true true e f h = absurd cc
-read_first None now room turn false l e f = absurd cc
+read_first None now room first false l e f = absurd cc
 
 pub written_so : (wants : Wants) (p : Pace) (now : ℕ) (bytes : List ℕ) → IsNextDeed wants p now (Did (Taken bytes))
-    → (wants.room ≡ 0) ⊎ (((time : ℕ) × (p.idle ≡ Some time)) ⊎ (p.turn ≡ 0))
-written_so wants p now bytes h = read_first p.idle now wants.room p.turn (is_write_due wants p now)
-    (is_wait_late wants p now) h.1.0 h.1.1
+    → (wants.room ≡ 0) ⊎ (((time : ℕ) × (p.idle ≡ Some time)) ⊎ ((p.emptied ≡ true) ⊎ (p.turn ≡ 0)))
+written_so wants p now bytes h = by (read_first p.idle now wants.room (reads_first p) (is_write_due wants p now)
+    (is_wait_late wants p now) h.1.0 h.1.1)
+  where
+    by : (wants.room ≡ 0) ⊎ (((time : ℕ) × (p.idle ≡ Some time)) ⊎ (reads_first p ≡ false))
+        → (wants.room ≡ 0) ⊎ (((time : ℕ) × (p.idle ≡ Some time)) ⊎ ((p.emptied ≡ true) ⊎ (p.turn ≡ 0)))
+    by (inl none) = inl none
+    by (inr (inl idle)) = inr (inl idle)
+    by (inr (inr e)) = inr (inr (not_first p.turn p.emptied e))
 
 -- ---- nothing is due before
 
@@ -200,7 +214,7 @@ not_due_before wants p now t undone rests before =
     let write_no : is_write_due wants p t ≡ false = write_then any (is_some p.full)
     (has_passed p.limit p.writes_since now) (is_at p.full now) (has_passed p.limit p.writes_since t) (is_at p.full t)
     writes.0 write_late_no in
-    let read_no : is_read_due wants p t ≡ false = read_then room (is_some p.idle) (nat_lt 0 p.turn)
+    let read_no : is_read_due wants p t ≡ false = read_then room (is_some p.idle) (reads_first p)
     (is_write_due wants p now) (is_wait_late wants p now) (is_at p.idle now) (is_write_due wants p t)
     (is_wait_late wants p t) (is_at p.idle t) reads.0 writes.0 wait_late_no in
     let late_no : is_write_late wants p t ≡ false = late_so any (has_passed p.limit p.writes_since t) write_late_no in

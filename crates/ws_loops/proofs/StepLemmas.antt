@@ -1,22 +1,23 @@
 -- A step of a slot: what is due is done, its machine is told of it, and less can happen from then on.
 use Rattle.std.proofs.Common.{◌≡◌, ◌∙◌, ℕ, zero, suc, ◌+◌, ◌*◌, ◌<◌, ◌≤◌, ◌&&◌, ◌||◌, not, Bool, true, false}
-use Rattle.std.proofs.Common.{if◌then◌else◌, nat_eq, List, [], ◌∷◌, length, take, Option, Some, None, is_some}
+use Rattle.std.proofs.Common.{if◌then◌else◌, nat_eq, nat_lt, List, [], ◌∷◌, length, take, Option, Some, None, is_some}
 use Rattle.std.proofs.Common.{refl, sym, ap, subst, arith, append-nil}
 use Rattle.std.proofs.lemmas.List.{length-take}
 use Rattle.std.proofs.lemmas.Option.{none-some, same_Some}
 use Rattle.std.proofs.lemmas.Bool.{eq-eqb}
 use Rattle.ws_machines.specs.Told.{Told}
-use Rattle.ws_machines.specs.Told.Told.{Reported, Taken, WriteFailed}
+use Rattle.ws_machines.specs.Told.Told.{Came, Ended, ReadFailed, Reported, Taken, WriteFailed}
 use Rattle.ws_machines.specs.Machines.{Extends, Wants, told_at}
 use Rattle.ws_machines.specs.declared.stream.StreamEvent.{StreamEvent}
 use Rattle.ws_machines.specs.declared.stream.StreamEvent.TheVariants as event
-use Rattle.ws_loops.specs.Deeds.{Deed, FitsTryWrite, HasDone, done_by, moved_by, read_deed, shown_by, told_by}
-use Rattle.ws_loops.specs.Deeds.{try_write_event, write_deed}
+use Rattle.ws_loops.specs.Deeds.{Deed, FitsTryWrite, HasDone, came_deed, done_by, moved_by, read_deed}
+use Rattle.ws_loops.specs.Deeds.{shown_by, told_by, try_write_event, write_deed}
 use Rattle.ws_loops.specs.declared.non_blocking.TryRead.{TryRead}
 use Rattle.ws_loops.specs.declared.non_blocking.TryRead.TheVariants as read
 use Rattle.ws_loops.specs.declared.non_blocking.TryWrite.{TryWrite}
 use Rattle.ws_loops.specs.declared.non_blocking.TryWrite.TheVariants as write
-use Rattle.ws_loops.specs.Deeds.Deed.{Did, HadNone, Passed, Showed, TookNone}
+use Rattle.ws_loops.specs.Deeds.Deed.{Did, Emptied, HadNone, Passed, Showed, TookNone}
+use Rattle.ws_loops.specs.Paces.{emptied_by, emptied_pace, told_pace}
 use Rattle.ws_loops.specs.Paces.{full_pace, has_any_bytes, idle_pace, is_at, is_due, has_ended_by, is_read_due}
 use Rattle.ws_loops.specs.Paces.{is_wait_late, is_write_due, is_write_late, pace_after}
 use Rattle.ws_loops.specs.Slots.{HasStepped, HasToldOne, IsAble, IsFree, IsNextDeed, in_vain, slot_left}
@@ -106,6 +107,17 @@ wait_is_late wants p now due free r w l =
 
 -- ---- what was done
 
+-- of what came the machine is told just the bytes
+came_told : (short : Bool) (bytes : List ℕ) (said : Told) → told_by (came_deed short bytes) ≡ said ∷ []
+    → Came bytes ≡ said
+came_told true bytes said e = cc
+came_told false bytes said e = cc
+
+came_moved : (short : Bool) (bytes : List ℕ) (moved : ℕ) → moved_by (came_deed short bytes) ≡ moved
+    → length bytes ≡ moved
+came_moved true bytes moved e = e
+came_moved false bytes moved e = e
+
 module _ {M S : Type 0} (agrees : M → M → List Told → Type 0) (wants : M → Wants) (did : S → S → List Deed → Type 0)
     (left : M → ℕ) where
   -- the stream did this, and the machine was told so
@@ -132,6 +144,91 @@ module _ {M S : Type 0} (agrees : M → M → List Told → Type 0) (wants : M �
         (in_vain old.pace.full now) (left new.machine) (left old.machine) h.nears (in_vain_le new.pace.idle now)
         (in_vain_le new.pace.full now);
   }
+
+  -- the stream gave all that it had, and the machine was told so
+  emptied_so : (now : ℕ) (old : Slot M S) (t : S) (new : Slot M S) (bytes : List ℕ)
+      → HasToldOne agrees wants left now (Came bytes) (record { machine = old.machine; stream = t; pace = old.pace })
+      new → new.stream ≡ t → HasDone did old.stream t (Emptied bytes ∷ [])
+      → IsNextDeed (wants old.machine) old.pace now (Emptied bytes)
+      → HasStepped agrees wants did left now old
+      (record { machine = new.machine; stream = new.stream; pace = emptied_pace true new.pace }) (length bytes) []
+  emptied_so now old t new bytes h same done next = record {
+    deed = Emptied bytes;
+    step = record {
+      told = h.told;
+      done = subst (λ (s : S). HasDone did old.stream s (Emptied bytes ∷ [])) (sym same) done;
+      paced = ap (emptied_pace true) h.paced;
+      order = next;
+    };
+    moved_by = refl;
+    shown = refl;
+    able = h.able;
+    nears = falls (in_vain new.pace.idle now) (in_vain new.pace.full now) (in_vain old.pace.idle now)
+        (in_vain old.pace.full now) (left new.machine) (left old.machine) h.nears (in_vain_le new.pace.idle now)
+        (in_vain_le new.pace.full now);
+  }
+
+  -- a read has brought this, and the machine was told so
+  came_so : (now : ℕ) (old : Slot M S) (t : S) (new : Slot M S) (bytes : List ℕ) (said : Told) (moved : ℕ)
+      (short : Bool) → Came bytes ≡ said → length bytes ≡ moved
+      → HasToldOne agrees wants left now said (record { machine = old.machine; stream = t; pace = old.pace }) new
+      → new.stream ≡ t → HasDone did old.stream t (came_deed short bytes ∷ [])
+      → IsNextDeed (wants old.machine) old.pace now (came_deed short bytes)
+      → HasStepped agrees wants did left now old
+      (record { machine = new.machine; stream = new.stream; pace = emptied_pace short new.pace }) moved []
+  came_so now old t new bytes said moved true e m h same done next =
+      subst (λ (n : ℕ). HasStepped agrees wants did left now old
+      (record { machine = new.machine; stream = new.stream; pace = emptied_pace true new.pace }) n []) m
+      (emptied_so now old t new bytes (subst (λ (x : Told). HasToldOne agrees wants left now x
+      (record { machine = old.machine; stream = t; pace = old.pace }) new) (sym e) h) same done next)
+  came_so now old t new bytes said moved false e m h same done next =
+      subst (λ (p : Pace). HasStepped agrees wants did left now old
+      (record { machine = new.machine; stream = new.stream; pace = p }) moved [])
+      (not_emptied now old t new bytes said e h)
+      (did_so now old t new (Did (Came bytes)) said moved (ap (λ (x : Told). Did x) e) m h same done next)
+    where
+      not_emptied : (now : ℕ) (old : Slot M S) (t : S) (new : Slot M S) (bytes : List ℕ) (said : Told)
+          → Came bytes ≡ said → HasToldOne agrees wants left now said
+          (record { machine = old.machine; stream = t; pace = old.pace }) new → new.pace ≡ emptied_pace false new.pace
+      not_emptied now old t new bytes said e h =
+          let now_paced : new.pace ≡ told_pace (has_any_bytes (wants old.machine).write) (wants new.machine).waits_anew
+          now (Came bytes) old.pace = h.paced ∙ ap (λ (x : Told). told_pace (has_any_bytes (wants old.machine).write)
+          (wants new.machine).waits_anew now x old.pace) (sym e) in
+          now_paced ∙ ap (emptied_pace false) (sym now_paced)
+
+  pub read_so : (now : ℕ) (old : Slot M S) (t : S) (new slot : Slot M S) (p : Pace) (room : List ℕ) (outcome : TryRead)
+      (len : ℕ) (said : Told) (moved : ℕ) → told_by (read_deed room outcome) ≡ said ∷ []
+      → moved_by (read_deed room outcome) ≡ moved → len ≡ length room
+      → HasToldOne agrees wants left now said (record { machine = old.machine; stream = t; pace = old.pace }) new
+      → new.stream ≡ t → HasDone did old.stream t (read_deed room outcome ∷ [])
+      → IsNextDeed (wants old.machine) old.pace now (read_deed room outcome)
+      → slot ≡ record { machine = new.machine; stream = new.stream; pace = p } → p ≡ emptied_by outcome len new.pace
+      → HasStepped agrees wants did left now old slot moved []
+  read_so now old t new slot p room outcome len said moved e m l h same done next is paced =
+      let all : slot ≡ record {
+        machine = new.machine;
+        stream = new.stream;
+        pace = emptied_by outcome (length room)
+            new.pace;
+      } = is ∙ ap (λ (q : Pace). record { machine = new.machine; stream = new.stream; pace = q })
+      (paced ∙ ap (λ (n : ℕ). emptied_by outcome n new.pace) l) in
+      subst (λ (x : Slot M S). HasStepped agrees wants did left now old x moved []) (sym all)
+      (by outcome e m done next)
+    where
+      by : (outcome : TryRead) → told_by (read_deed room outcome) ≡ said ∷ []
+          → moved_by (read_deed room outcome) ≡ moved → HasDone did old.stream t (read_deed room outcome ∷ [])
+          → IsNextDeed (wants old.machine) old.pace now (read_deed room outcome)
+          → HasStepped agrees wants did left now old
+          (record { machine = new.machine; stream = new.stream; pace = emptied_by outcome (length room) new.pace })
+          moved []
+      by (read.Came count) e m done next = came_so now old t new (take count room) said moved
+          (nat_lt count (length room)) (came_told (nat_lt count (length room)) (take count room) said e)
+          (came_moved (nat_lt count (length room)) (take count room) moved m) h same done next
+      by read.Ended e m done next = did_so now old t new (Did Ended) said moved (ap (λ (x : Told). Did x) cc) m h
+          same done next
+      by read.Failed e m done next = did_so now old t new (Did ReadFailed) said moved (ap (λ (x : Told). Did x) cc) m h
+          same done next
+      by read.NotReady e m done next = absurd cc
 
   -- its lines were taken, and the machine was told so
   pub showed_so : (now : ℕ) (old new : Slot M S) (lines : List ℕ)
@@ -254,7 +351,11 @@ module _ {M S : Type 0} (agrees : M → M → List Told → Type 0) (wants : M �
 -- a read that is due is next, whatever comes of it, and so is a write
 pub read_next : (wants : Wants) (p : Pace) (now : ℕ) (room : List ℕ) (outcome : TryRead) → IsFree wants p now
     → is_read_due wants p now ≡ true → IsNextDeed wants p now (read_deed room outcome)
-read_next wants p now room (read.Came count) f e = (f, e)
+read_next wants p now room (read.Came count) f e = came_next (nat_lt count (length room)) (take count room)
+  where
+    came_next : (short : Bool) (bytes : List ℕ) → IsNextDeed wants p now (came_deed short bytes)
+    came_next true bytes = (f, e)
+    came_next false bytes = (f, e)
 read_next wants p now room read.Ended f e = (f, e)
 read_next wants p now room read.Failed f e = (f, e)
 read_next wants p now room read.NotReady f e = (f, e)

@@ -1,5 +1,6 @@
 -- What happens in a slot of a loop: what its stream does, and what the clock says.
-use Rattle.std.specs.Prelude.{ℕ, ◌+◌, ◌<◌, ◌≤◌, ⊤, Bool, List, [], ◌∷◌, ◌++◌, length, take, Option, Some, None}
+use Rattle.std.specs.Prelude.{ℕ, ◌+◌, ◌<◌, ◌≤◌, ⊤, Bool, true, false, nat_lt, List, [], ◌∷◌, ◌++◌, length, take}
+use Rattle.std.specs.Prelude.{Option, Some, None}
 use Rattle.std.specs.List.{flat_map}
 use Rattle.ws_machines.specs.Told.{Told}
 use Rattle.ws_machines.specs.Told.Told.{Came, Ended, ReadFailed, Reported, Taken, WriteFailed}
@@ -10,11 +11,12 @@ use Rattle.ws_loops.specs.declared.non_blocking.TryRead.TheVariants as read
 use Rattle.ws_loops.specs.declared.non_blocking.TryWrite.{TryWrite}
 use Rattle.ws_loops.specs.declared.non_blocking.TryWrite.TheVariants as write
 
--- One thing that happened: the stream did this. It was asked for bytes and had none; it was given bytes and took none.
--- The lines of the machine were taken. The clock has passed a limit, of which the machine is told this. The stream was
--- found ready to be read, or to be written.
+-- One thing that happened: the stream did this. It was asked for more bytes than it had, and gave these. It was asked
+-- for bytes and had none; it was given bytes and took none. The lines of the machine were taken. The clock has passed a
+-- limit, of which the machine is told this. The stream was found ready to be read, or to be written.
 pub data Deed : Type 0 where
   Did : Told → Deed
+  Emptied : List ℕ → Deed
   HadNone : Deed
   TookNone : Deed
   Showed : List ℕ → Deed
@@ -29,6 +31,7 @@ pub record Happened : Type 0 where
 -- what the machine is told of it: what the stream did, that its lines were taken, and what the clock says
 abbrev pub told_by : Deed → List Told
 told_by (Did told) = told ∷ []
+told_by (Emptied bytes) = Came bytes ∷ []
 told_by HadNone = []
 told_by TookNone = []
 told_by (Showed lines) = Reported lines ∷ []
@@ -38,6 +41,7 @@ told_by (Woken readable writable) = []
 -- what the stream did of it: all but what others did
 abbrev pub done_by : Deed → List Deed
 done_by (Did told) = Did told ∷ []
+done_by (Emptied bytes) = Emptied bytes ∷ []
 done_by HadNone = HadNone ∷ []
 done_by TookNone = TookNone ∷ []
 done_by (Showed lines) = []
@@ -47,6 +51,7 @@ done_by (Woken readable writable) = []
 -- the lines that were taken
 abbrev pub shown_by : Deed → List (List ℕ)
 shown_by (Did told) = []
+shown_by (Emptied bytes) = []
 shown_by HadNone = []
 shown_by TookNone = []
 shown_by (Showed lines) = lines ∷ []
@@ -70,6 +75,7 @@ told_len _ = 0
 
 abbrev pub moved_by : Deed → ℕ
 moved_by (Did told) = told_len told
+moved_by (Emptied bytes) = length bytes
 moved_by HadNone = 0
 moved_by TookNone = 0
 moved_by (Showed lines) = 0
@@ -82,9 +88,14 @@ all_moved (x ∷ happened) = moved_by x.deed + all_moved happened
 
 -- ---- calls, as what the stream did
 
+-- these bytes came: all that the stream had, or as many as it was asked for
+abbrev pub came_deed : Bool → List ℕ → Deed
+came_deed true bytes = Emptied bytes
+came_deed false bytes = Did (Came bytes)
+
 -- a read into a room that then holds these bytes
 abbrev pub read_deed : List ℕ → TryRead → Deed
-read_deed room (read.Came count) = Did (Came (take count room))
+read_deed room (read.Came count) = came_deed (nat_lt count (length room)) (take count room)
 read_deed room read.Ended = Did Ended
 read_deed room read.Failed = Did ReadFailed
 read_deed room read.NotReady = HadNone

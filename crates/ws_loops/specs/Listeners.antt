@@ -86,6 +86,11 @@ IfRoundMadeFor tickets (arrival.Lost why) P = ⊤
 IfRoundMadeFor tickets (arrival.NotAccepted why) P = ⊤
 IfRoundMadeFor tickets arrival.TooLate P = P
 
+-- where a client was lost, this holds
+abbrev pub IfLost : {S W : Type 0} → Arrival S W → Type 0 → Type 0
+IfLost (arrival.Lost why) P = P
+IfLost _ P = ⊤
+
 -- that no client can be taken is told only where it wasn't before, and then it was
 abbrev pub IsDeafBehind : {S W : Type 0} → Bool → Arrival S W → Bool → Type 0
 IsDeafBehind before (arrival.NotAccepted why) after = (before ≡ false) × (after ≡ true)

@@ -1,12 +1,14 @@
 -- The time limits of a stream, when it was last asked in vain, and what is due.
-use Rattle.std.specs.Prelude.{ℕ, ◌+◌, ◌-◌, ◌<◌, ◌^◌, ⊤, ◌||◌, ◌&&◌, not, min, nat_lt, nat_le, nat_eq, Bool, false}
+use Rattle.std.specs.Prelude.{ℕ, ◌+◌, ◌-◌, ◌<◌, ◌^◌, ⊤, ◌||◌, ◌&&◌, not, min, nat_lt, nat_le, nat_eq, Bool, true, false}
 use Rattle.std.specs.Prelude.{if◌then◌else◌, List, length, Option, Some, None, is_some}
 use Rattle.ws_machines.specs.Told.{Told}
 use Rattle.ws_machines.specs.Told.Told.{Came, DeadlinePassed, DirectionEnded, Ended, NothingCame, ReadFailed, Reported}
 use Rattle.ws_machines.specs.Told.Told.{Taken, WriteFailed}
 use Rattle.ws_machines.specs.Machines.{Wants}
 use Rattle.ws_loops.specs.Deeds.{Deed}
-use Rattle.ws_loops.specs.Deeds.Deed.{Did, HadNone, Passed, Showed, TookNone, Woken}
+use Rattle.ws_loops.specs.Deeds.Deed.{Did, Emptied, HadNone, Passed, Showed, TookNone, Woken}
+use Rattle.ws_loops.specs.declared.non_blocking.TryRead.{TryRead}
+use Rattle.ws_loops.specs.declared.non_blocking.TryRead.TheVariants as read
 use Rattle.ws_loops.specs.declared.pace.Pace.{Pace}
 
 -- so many bytes may be read before what is to be written is tried again
@@ -24,6 +26,7 @@ begun_pace now limit deadline = record {
   idle = None;
   full = None;
   turn = turn_len;
+  emptied = false;
 }
 
 -- ---- what each thing that happens changes
@@ -40,6 +43,7 @@ anew_pace writes anew now p = record {
   idle = p.idle;
   full = p.full;
   turn = p.turn;
+  emptied = p.emptied;
 }
 
 -- these bytes came: more may have
@@ -53,7 +57,27 @@ came_pace len p = record {
   idle = None;
   full = p.full;
   turn = p.turn - len;
+  emptied = false;
 }
+
+-- the last read has brought all that the stream had, and what is to be written goes first then; or it has not
+abbrev pub emptied_pace : Bool → Pace → Pace
+emptied_pace emptied p = record {
+  limit = p.limit;
+  deadline = p.deadline;
+  waits_since = p.waits_since;
+  writes_since = p.writes_since;
+  taken_at = p.taken_at;
+  idle = p.idle;
+  full = p.full;
+  turn = p.turn;
+  emptied = emptied;
+}
+
+-- a read of so many bytes has brought all that there was if it brought fewer
+abbrev pub emptied_by : TryRead → ℕ → Pace → Pace
+emptied_by (read.Came count) len p = emptied_pace (nat_lt count len) p
+emptied_by _ len p = p
 
 -- bytes were taken: both limits begin with them, and what comes is read before more is written
 abbrev pub taken_pace : ℕ → Pace → Pace
@@ -66,6 +90,7 @@ taken_pace now p = record {
   idle = None;
   full = None;
   turn = turn_len;
+  emptied = false;
 }
 
 -- the machine was told this, while it wanted bytes to be written or not, and it waits anew then or not
@@ -91,6 +116,7 @@ idle_pace now p = record {
   idle = Some now;
   full = p.full;
   turn = p.turn;
+  emptied = p.emptied;
 }
 
 -- the stream took no bytes: what comes is read before it is given them again
@@ -104,6 +130,7 @@ full_pace now p = record {
   idle = p.idle;
   full = Some now;
   turn = turn_len;
+  emptied = false;
 }
 
 -- the stream was found ready
@@ -117,6 +144,7 @@ woken_pace readable writable p = record {
   idle = if readable then None else p.idle;
   full = if writable then None else p.full;
   turn = p.turn;
+  emptied = if readable then false else p.emptied;
 }
 
 abbrev pub has_any_bytes : List ℕ → Bool
@@ -125,6 +153,8 @@ has_any_bytes bytes = nat_lt 0 (length bytes)
 -- what this changes, of a machine that wanted the first and wants the second then
 abbrev pub pace_after : Wants → Wants → ℕ → Deed → Pace → Pace
 pace_after old new now (Did told) p = told_pace (has_any_bytes old.write) new.waits_anew now told p
+pace_after old new now (Emptied bytes) p =
+    emptied_pace true (told_pace (has_any_bytes old.write) new.waits_anew now (Came bytes) p)
 pace_after old new now HadNone p = idle_pace now p
 pace_after old new now TookNone p = full_pace now p
 pace_after old new now (Showed lines) p = told_pace (has_any_bytes old.write) new.waits_anew now (Reported lines) p
@@ -165,10 +195,14 @@ abbrev pub is_write_due : Wants → Pace → ℕ → Bool
 is_write_due wants p now = has_any_bytes wants.write && (not (is_some p.full)
     || (has_passed p.limit p.writes_since now && not (is_at p.full now)))
 
--- it is to be read: it may have bytes, of which the turn has room or nothing is to be written; or its time is up and it
+-- a read goes before a write: the turn has room, and the last read didn't bring all that the stream had
+abbrev pub reads_first : Pace → Bool
+reads_first p = nat_lt 0 p.turn && not p.emptied
+
+-- it is to be read: it may have bytes, and a read goes first or nothing is to be written; or its time is up and it
 -- wasn't asked by now
 abbrev pub is_read_due : Wants → Pace → ℕ → Bool
-is_read_due wants p now = nat_lt 0 wants.room && ((not (is_some p.idle) && (nat_lt 0 p.turn
+is_read_due wants p now = nat_lt 0 wants.room && ((not (is_some p.idle) && (reads_first p
     || not (is_write_due wants p now))) || (is_wait_late wants p now && not (is_at p.idle now)))
 
 -- something is due by now: it isn't done, and has lines, or an end of its direction, a deadline, something to read or

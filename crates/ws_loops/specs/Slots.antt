@@ -7,7 +7,7 @@ use Rattle.ws_machines.specs.Told.Told.{Taken, WriteFailed}
 use Rattle.ws_machines.specs.Machines.{Extends, HasNext, IsRunning, Wants}
 use Rattle.ws_loops.specs.Deeds.{Deed, Happened, HasDone, all_done, all_moved, all_shown, all_told, done_by, moved_by}
 use Rattle.ws_loops.specs.Deeds.{shown_by, told_by}
-use Rattle.ws_loops.specs.Deeds.Deed.{Did, HadNone, Passed, Showed, TookNone, Woken}
+use Rattle.ws_loops.specs.Deeds.Deed.{Did, Emptied, HadNone, Passed, Showed, TookNone, Woken}
 use Rattle.ws_loops.specs.Paces.{has_any_bytes, has_waited, is_at, is_due, has_ended_by, is_read_due, is_wait_late}
 use Rattle.ws_loops.specs.Paces.{is_write_due, is_write_late, pace_after, told_pace}
 use Rattle.ws_loops.specs.Sinks.{HasTakenLines, said_at}
@@ -30,6 +30,7 @@ pub record IsFree (wants : Wants) (p : Pace) (now : ℕ) : Type 0 where
 -- be, and then written. Where neither is to be done, a limit that has passed is told.
 abbrev pub IsNextDeed : Wants → Pace → ℕ → Deed → Type 0
 IsNextDeed wants p now (Woken readable writable) = ⊤
+IsNextDeed wants p now (Emptied bytes) = IsFree wants p now × (is_read_due wants p now ≡ true)
 IsNextDeed wants p now HadNone = IsFree wants p now × (is_read_due wants p now ≡ true)
 IsNextDeed wants p now TookNone = IsFree wants p now × ((is_read_due wants p now ≡ false)
     × (is_write_due wants p now ≡ true))

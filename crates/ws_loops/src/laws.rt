@@ -22,12 +22,12 @@ pub fn failed_write_was_tried()
         (pace.full ≡ Some now) × (has_passed pace.limit pace.writes_since now ≡ true) }
 {}
 
-/// Bytes are written only where nothing is to be read, or the stream was asked and had nothing, or a turn of bytes was
-/// read since the last write.
+/// Bytes are written only where nothing is to be read, or the stream was asked and had nothing, or no more than it gave
+/// then, or a turn of bytes was read since the last write.
 pub fn written_once_read()
     ensures { (wants : Wants) (pace : Pace) (now : ℕ) (bytes : List ℕ) →
         IsNextDeed wants pace now (Did (Taken bytes)) →
-        (wants.room ≡ 0) ⊎ (((time : ℕ) × (pace.idle ≡ Some time)) ⊎ (pace.turn ≡ 0)) }
+        (wants.room ≡ 0) ⊎ (((time : ℕ) × (pace.idle ≡ Some time)) ⊎ ((pace.emptied ≡ true) ⊎ (pace.turn ≡ 0))) }
 {}
 
 /// Before the time that `due_at` names nothing is due, if the stream isn't found ready.

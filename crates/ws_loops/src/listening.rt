@@ -2,7 +2,8 @@
 
 ghost use Rattle.std.specs.Prelude.{◌≡◌, ◌<◌, ◌≤◌, [], length, true, IfOk, IfSome, MatchOption, OnOk};
 ghost use Rattle.ws_loops.specs.Listeners.{CannotTake, HasArrived, HasAskedClient, HasClientBy, HasDeafened};
-ghost use Rattle.ws_loops.specs.Listeners.{HasHeardFor, HasHeardSo, IfRoundMadeFor, IsDeafBehind, IsPlaceToAsk};
+ghost use Rattle.ws_loops.specs.Listeners.{HasHeardFor, HasHeardSo, IfLost, IfRoundMadeFor, IsDeafBehind};
+ghost use Rattle.ws_loops.specs.Listeners.{IsPlaceToAsk};
 ghost use Rattle.ws_loops.specs.Looping.{AreSame, loop_value};
 ghost use Rattle.ws_loops.specs.Loops.{AreServedInTime, HaveRun, IsLoopSound};
 ghost use Rattle.ws_loops.specs.Places.{IsFirstFree, KeepTurns, StayOfKind};
@@ -35,6 +36,7 @@ impl<M: Machine + Drop, S: NonBlocking + Drop> Loop<M, S> {
     /// Serves the slots until one of them has ended, or a client comes for whom a place is empty, or this time has
     /// come; all were served by then. While no place is empty the listener isn't asked, and clients wait. Whoever calls
     /// takes what has ended out of its place, or puts a slot with the client's stream into the place that is told.
+    /// Where a client is lost, all were served by then.
     pub fn run_listening<L: Listener<Client = S>, P: Poller, K: LineSink>(
         &mut self,
         poller: &mut P,
@@ -54,8 +56,51 @@ impl<M: Machine + Drop, S: NonBlocking + Drop> Loop<M, S> {
         ensures kinds { StayOfKind self.old.places self.new.places }
         ensures served { IfOk result (λ arrival. IfRoundMadeFor self.old.tickets arrival (AreServedInTime M.agrees
             M.wants S.did (P.time poller.new) self.new.places)) }
+        ensures lost { IfOk result (λ arrival. IfLost arrival (AreServedInTime M.agrees M.wants S.did
+            (P.time poller.new) self.new.places)) }
     {
-        listen_inside(&mut self.inside, poller, sink, listener, until, room)
+        listen_in_turn(&mut self.inside, poller, sink, listener, until, room)
+    }
+}
+
+/// Serves the slots until something arrives. A client that is lost is told behind one round more: however many are, one
+/// after the other, the slots go on between them.
+fn listen_in_turn<M: Machine + Drop, L: Listener, P: Poller, K: LineSink>(
+    inside: &mut Inside<M, L::Client>,
+    poller: &mut P,
+    sink: &mut K,
+    listener: &mut L,
+    until: Option<u64>,
+    room: &mut [u8],
+) -> Result<Arrival<L::Client, L::Miss>, K::Fault>
+    requires room { 0 < length room.old }
+    requires whole { IsLoopSound M.agrees M.wants inside.old }
+    ensures run { OnOk result (HaveRun M.agrees M.wants L.Client.did K.heard (P.time poller.old) (P.time poller.new)
+        inside.old.seats.places.items inside.new.seats.places.items sink.old sink.new) }
+    ensures arrived { IfOk result (λ arrival. HasArrived M.wants L.Client.did until (P.time poller.new)
+        (loop_value inside.new) arrival) }
+    ensures asked { IfOk result (λ arrival. HasHeardFor L.did listener.old listener.new (loop_value inside.new)
+        arrival) }
+    ensures turns { OnOk result (KeepTurns inside.old.seats.tickets.items inside.new.seats.tickets.items) }
+    ensures deaf { IfOk result (λ arrival. IsDeafBehind inside.old.door.deaf arrival inside.new.door.deaf) }
+    ensures whole { IsLoopSound M.agrees M.wants inside.new }
+    ensures later { OnOk result (P.time poller.old ≤ P.time poller.new) }
+    ensures kinds { StayOfKind inside.old.seats.places.items inside.new.seats.places.items }
+    ensures served { IfOk result (λ arrival. IfRoundMadeFor inside.old.seats.tickets.items arrival
+        (AreServedInTime M.agrees M.wants L.Client.did (P.time poller.new) inside.new.seats.places.items)) }
+    ensures lost { IfOk result (λ arrival. IfLost arrival (AreServedInTime M.agrees M.wants L.Client.did
+        (P.time poller.new) inside.new.seats.places.items)) }
+{
+    let arrival = listen_inside(inside, poller, sink, listener, until, room)?;
+    match arrival {
+        Arrival::Lost(why) => {
+            let now = poller.now();
+            run_round(inside, poller, sink, Some(now), room)?;
+            Ok(Arrival::Lost(why))
+        }
+        Arrival::Ended(_) | Arrival::Client(..) | Arrival::NotAccepted(_) | Arrival::TooLate => {
+            Ok(arrival)
+        }
     }
 }
 
@@ -83,6 +128,7 @@ fn listen_inside<M: Machine + Drop, L: Listener, P: Poller, K: LineSink>(
     ensures kinds { StayOfKind inside.old.seats.places.items inside.new.seats.places.items }
     ensures served { IfOk result (λ arrival. IfRoundMadeFor inside.old.seats.tickets.items arrival
         (AreServedInTime M.agrees M.wants L.Client.did (P.time poller.new) inside.new.seats.places.items)) }
+    ensures room { OnOk result (0 < length room.new) }
 {
     let mut now = poller.now();
     let mut late = None;

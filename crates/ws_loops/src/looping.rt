@@ -138,16 +138,16 @@ impl<M: Machine + Drop, S: NonBlocking + Drop> Loop<M, S> {
         take_inside(&mut self.inside, at)
     }
 
-    /// Clients are asked for again, though it was told that none can be taken.
-    pub fn listen_again(&mut self)
-        ensures places { self.new.places ≡ self.old.places }
-        ensures turns { self.new.tickets ≡ self.old.tickets }
-        ensures deaf { self.new.deaf ≡ false }
+    /// Takes what stands in a place out of it, for another to be put there: clients aren't asked for because of it.
+    pub fn lift(&mut self, at: usize) -> Place<M, S>
+        requires at { at < length self.old.places }
+        ensures lifted { slice_get self.old.places at ≡ Some result }
+        ensures empty { self.new.places ≡ slice_set self.old.places at Empty }
+        ensures turns { self.new.tickets ≡ slice_set self.old.tickets at None }
+        ensures able { IfOpen result (λ slot. IsAble M.agrees M.wants slot.machine) }
+        ensures deaf { self.new.deaf ≡ self.old.deaf }
     {
-        self.inside.door = Door {
-            asks: true,
-            deaf: false,
-        };
+        empty_inside(&mut self.inside, at)
     }
 
     /// Serves the slots until one of them has ended, or this time has come; all were served by then. Whoever calls

@@ -4,7 +4,7 @@ ghost use Rattle.std.specs.Prelude.{◌≡◌, ◌<◌, ◌≤◌, ◌∷◌, []
 ghost use Rattle.ws_machines.specs.Machines.{Wants, WasWanted, told_at};
 ghost use Rattle.ws_machines.specs.Told.Told.{DirectionEnded};
 ghost use Rattle.ws_loops.specs.Deeds.{FitsTryRead, FitsTryWrite, HasDone, moved_by, read_deed, try_write_event};
-ghost use Rattle.ws_loops.specs.Deeds.{write_deed};
+ghost use Rattle.ws_loops.specs.Deeds.{told_by, write_deed};
 ghost use Rattle.ws_loops.specs.Deeds.Deed.{Did, HadNone};
 
 use ws_machines::StreamEvent;
@@ -38,7 +38,7 @@ impl TryRead {
     pub(crate) fn event(self, room: &[u8]) -> Option<StreamEvent<'_>>
         requires { FitsTryRead (length room.now) self }
         ensures told { (wants : Wants) → MatchOption result (read_deed room.now self ≡ HadNone)
-            (λ event. read_deed room.now self ≡ Did (told_at wants event)) }
+            (λ event. told_by (read_deed room.now self) ≡ told_at wants event ∷ []) }
         ensures wanted { (wants : Wants) → 0 < wants.room → length room.now ≤ wants.room →
             IfSome result (λ event. WasWanted wants event) }
     {
@@ -92,7 +92,7 @@ pub trait NonBlocking {
     /// From the first state to the second one it did just this.
     ghost did: { Self → Self → List Deed → Type 0 };
 
-    /// Reads bytes that are there into the room.
+    /// Reads the bytes that are there into the room: fewer than it holds where no more are.
     fn try_read(&mut self, room: &mut [u8]) -> TryRead
         requires { 0 < length room.old }
         ensures fits { FitsTryRead (length room.new) result }

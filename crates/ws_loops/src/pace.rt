@@ -3,8 +3,9 @@
 ghost use Rattle.std.specs.Prelude.{◌≡◌, List, ℕ};
 ghost use Rattle.ws_machines.specs.Told.{told_of};
 ghost use Rattle.ws_loops.specs.Paces.{anew_pace, begun_pace, full_pace, has_ended_by, has_passed, has_waited};
-ghost use Rattle.ws_loops.specs.Paces.{idle_pace, is_at, passes_at, told_pace, woken_pace};
+ghost use Rattle.ws_loops.specs.Paces.{emptied_by, idle_pace, is_at, passes_at, reads_first, told_pace, woken_pace};
 
+use crate::non_blocking::TryRead;
 use crate::poller::Readiness;
 use ws_machines::StreamEvent;
 
@@ -30,6 +31,8 @@ pub struct Pace {
     pub full: Option<u64>,
     /// How many bytes may still be read before a write is tried.
     pub turn: usize,
+    /// Whether the last read brought all that the stream had: nothing was written since, nor was it found ready.
+    pub emptied: bool,
 }
 
 impl Pace {
@@ -46,6 +49,7 @@ impl Pace {
             idle: None,
             full: None,
             turn: TURN,
+            emptied: false,
         }
     }
 
@@ -57,6 +61,7 @@ impl Pace {
             StreamEvent::Came(piece) => Pace {
                 idle: None,
                 turn: self.turn.saturating_sub(piece.len()),
+                emptied: false,
                 ..self.begun_anew(writes, anew, now)
             },
             StreamEvent::Taken(_) => Pace {
@@ -64,6 +69,7 @@ impl Pace {
                 idle: None,
                 full: None,
                 turn: TURN,
+                emptied: false,
                 ..self.begun_anew(false, true, now)
             },
             StreamEvent::Ended
@@ -90,6 +96,19 @@ impl Pace {
         pace
     }
 
+    /// Once the machine was told of this read, of so many bytes at most: where it brought fewer, no more were there.
+    pub(crate) fn emptied_by(self, outcome: TryRead, len: usize) -> Pace
+        ensures { result ≡ emptied_by outcome len self }
+    {
+        match outcome {
+            TryRead::Came(count) => Pace {
+                emptied: count < len,
+                ..self
+            },
+            TryRead::Ended | TryRead::Failed | TryRead::NotReady => self,
+        }
+    }
+
     /// Once the stream had no bytes.
     pub(crate) fn idle_since(self, now: u64) -> Pace
         ensures { result ≡ idle_pace now self }
@@ -107,6 +126,7 @@ impl Pace {
         Pace {
             full: Some(now),
             turn: TURN,
+            emptied: false,
             ..self
         }
     }
@@ -118,11 +138,19 @@ impl Pace {
         let mut pace = self;
         if ready.read {
             pace.idle = None;
+            pace.emptied = false;
         }
         if ready.write {
             pace.full = None;
         }
         pace
+    }
+
+    /// Whether a read goes before a write.
+    pub(crate) fn reads_first(self) -> bool
+        ensures { result ≡ reads_first self }
+    {
+        self.turn > 0 && !self.emptied
     }
 
     /// Whether the deadline has passed.

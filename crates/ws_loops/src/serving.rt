@@ -190,7 +190,10 @@ fn read<M: Machine, S: NonBlocking>(
     let place = &mut room[..len];
     let outcome = slot.stream.try_read(place);
     match outcome.event(place) {
-        Some(event) => tell(slot, event, now)?,
+        Some(event) => {
+            tell(slot, event, now)?;
+            slot.pace = slot.pace.emptied_by(outcome, len);
+        }
         None => slot.pace = slot.pace.idle_since(now),
     }
     Ok(outcome.count())

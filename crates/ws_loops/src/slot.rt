@@ -62,7 +62,7 @@ impl<M: Machine, S> Slot<M, S> {
         ensures { result ≡ is_read_due (M.wants self.now.machine) self.now.pace now }
     {
         self.machine.room() > 0
-            && ((self.pace.idle.is_none() && (self.pace.turn > 0 || !self.is_write_due(now)))
+            && ((self.pace.idle.is_none() && (self.pace.reads_first() || !self.is_write_due(now)))
                 || (self.is_wait_late(now) && !is_at(self.pace.idle, now)))
     }
 

@@ -1,7 +1,7 @@
 //! A connection that is under way for a place of a loop: the addresses of a name are tried, one after the other, until
 //! one takes it. Nothing is waited for here.
 
-ghost use Rattle.std.specs.Prelude.{◌≡◌, ◌<◌, [], length, Some, slice_get};
+ghost use Rattle.std.specs.Prelude.{◌≡◌, ◌<◌, ◌≤◌, [], length, Some, slice_get};
 ghost use Rattle.ws_networks.specs.Bounds.{gives_up_at};
 ghost use Rattle.ws_networks.specs.Connecting.{HasDialled, HasTriedOne, HaveMissed, IfDialled, IfTried, IsDialling};
 ghost use Rattle.ws_networks.specs.Connecting.{HasNextAddress, tried_by, tries_past};
@@ -23,7 +23,7 @@ pub enum Missed<W> {
 
 /// The addresses of a name, of which the first ones were tried and have taken no connection.
 #[derive(Drop)]
-pub(crate) struct Tries<A, W> {
+pub struct Tries<A, W> {
     pub(crate) addresses: Vec<A>,
     /// So many have taken none.
     pub(crate) missed: usize,
@@ -64,7 +64,7 @@ impl<A, W: Copy> Tries<A, W> {
 
 /// A connection that is under way: to the address behind those that have taken none.
 #[derive(Drop)]
-pub(crate) struct Dial<A, S, W> {
+pub struct Dial<A, S, W> {
     pub(crate) tries: Tries<A, W>,
     pub(crate) stream: S,
     /// When it was begun.
@@ -73,7 +73,7 @@ pub(crate) struct Dial<A, S, W> {
 
 impl<A, S, W> Dial<A, S, W> {
     /// Until when it is waited for.
-    pub(crate) fn until(&self) -> Option<u64>
+    pub fn until(&self) -> Option<u64>
         ensures { result ≡ gives_up_at self.now.tries.bounds self.now.since }
     {
         self.tries.bounds.gives_up_at(self.since)
@@ -82,7 +82,7 @@ impl<A, S, W> Dial<A, S, W> {
 
 /// What has come of a connection by now.
 #[derive(Drop)]
-pub(crate) enum Dialled<A, S, W> {
+pub enum Dialled<A, S, W> {
     /// It is made.
     Made(S),
     /// It is still under way.
@@ -101,7 +101,7 @@ pub(crate) enum Tried<S, W> {
 
 /// Asks how far a connection has come that is under way for this place. Where its address has taken none, or is waited
 /// for no longer, the next ones are tried.
-pub(crate) fn ask<N: Network>(
+pub fn ask<N: Network>(
     network: &mut N,
     at: usize,
     dial: Dial<N::Address, N::Stream, N::Miss>,
@@ -129,6 +129,22 @@ pub(crate) fn ask<N: Network>(
         }),
         Tried::Missed(why) => try_next(network, at, tries.past(why), now),
     }
+}
+
+/// Begins a connection to the first of these addresses that takes it, for this place.
+pub fn begin_dial<N: Network>(
+    network: &mut N,
+    at: usize,
+    addresses: Vec<N::Address>,
+    bounds: Bounds,
+    now: u64,
+) -> Dialled<N::Address, N::Stream, N::Miss>
+    ensures dialled { HasDialled N.did at now (λ from before. (before ≡ []) × (from ≤ now)) bounds
+        addresses.items result network.old network.new }
+    ensures fresh { IfDialled result (λ stream. N.Stream.did stream stream []) }
+    ensures within { HasNextAddress result }
+{
+    try_next(network, at, Tries::new(addresses, bounds), now)
 }
 
 /// Tries those addresses that are left, until one has taken the connection, or is waited for.

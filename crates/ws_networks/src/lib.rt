@@ -16,7 +16,7 @@ mod network;
 mod network_loop;
 
 pub use bounds::{Bounds, Limits};
-pub use dialing::Missed;
+pub use dialing::{Dial, Dialled, Missed, Tries, ask, begin_dial};
 pub use listening::{Unheard, listen};
 pub use meeting::{Errand, Met, run_at};
 pub use network::{Network, Progress};

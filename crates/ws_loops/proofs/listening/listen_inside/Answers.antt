@@ -123,3 +123,6 @@ pub returns-in_err-now-in-None-clause-kinds : goal.returns-in_err-now-in-None-cl
 returns-in_err-now-in-None-clause-kinds g c = kinds_then c.args.inside.now.seats.places.items
     c.loop-arrival.inside.seats.places.items c.run_round.new.inside.seats.places.items c.loop-arrival.invariant.kinds
     (subst (λ l. StayOfKind l c.run_round.new.inside.seats.places.items) c.arrival_by.ensures.same.places c.in_err-now-in-None.ensures.kinds)
+
+pub returns-in-Some-clause-room : goal.returns-in-Some-clause-room
+returns-in-Some-clause-room g c = c.loop-arrival.invariant.room
