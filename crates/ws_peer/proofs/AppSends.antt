@@ -27,7 +27,7 @@ use Rattle.ws_suite.specs.Evidence.{other_role}
 use Rattle.ws_peer.specs.Apps.{AreFramesOfSends, SendsOwn, has_close_send, is_close_send}
 use Rattle.ws_peer.specs.EchoTalks.{HasTakenSomething}
 use Rattle.ws_peer.specs.InnerAppLaws.{IsDoneOrRefused, IsNotForMemory, SendLaws}
-use Rattle.ws_peer.proofs.Echoing.{at_equal}
+use Rattle.ws_echo.proofs.Echoing.{at_equal}
 
 -- ---- closes among frames
 

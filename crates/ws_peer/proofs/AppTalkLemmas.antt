@@ -30,7 +30,8 @@ use Rattle.ws_sends.specs.declared.keyed_send.KeyedSend.{KeyedSend}
 use Rattle.ws_peer.specs.Apps.{AppHistory, AppPeerValue, AreFramesOfSends, IsAppTalk, MayHaveSaid, SaysAfter, SendsOwn, TakesFed, nothing_said, plan_after, planned, planned_in, sends_next, taken_next, taken_of_fed}
 use Rattle.ws_peer.specs.EchoTalks.{HasTakenSomething}
 use Rattle.ws_peer.specs.InnerAppLaws.{AppLaws}
-use Rattle.ws_peer.proofs.Echoing.{at_equal, call_of, nothing_is_valid}
+use Rattle.ws_echo.proofs.Echoing.{at_equal, nothing_is_valid}
+use Rattle.ws_echo.specs.InnerEchoing.{piece_call}
 use Rattle.ws_peer.proofs.EchoTalkLemmas.{begun_by, begins_with, the_rest}
 use Rattle.ws_peer.proofs.AppSends.{stream_both}
 
@@ -200,7 +201,7 @@ pub record IsStep (sends : List KeyedSend) (old new : AppPeerValue) (mid : Sessi
   pub rest : drop new.done new.plan ≡ plan_after (drop old.done old.plan)
   pub told_before : List PlacedEvent
   pub told_after : List PlacedEvent
-  pub took : HasTakenAll reply_to old.session mid (call_of (take count (drop old.taken new.fed)) old.key before middle) told_before told_after
+  pub took : HasTakenAll reply_to old.session mid (piece_call (take count (drop old.taken new.fed)) old.key before middle) told_before told_after
   pub own : SendsOwn sends mid new.session middle after
   pub sends_so : sends_next (drop old.done old.plan) ≡ sends
 
@@ -244,7 +245,7 @@ module _ (laws : AppLaws) (sends : List KeyedSend) (old new : AppPeerValue) (mid
         ap (λ (l : List ℕ). take old.taken old.fed ++ take count (drop old.taken l)) step.fed ∙ (sym (taken_more old.fed piece old.taken count step.short)
         ∙ ap (λ k. take k (old.fed ++ piece)) taken_so)
 
-    takes : TakesAll reply_to old.session mid (exchange_of sent (take old.taken old.fed)) (call_of (take count (drop old.taken new.fed)) old.key before middle) step.took.told
+    takes : TakesAll reply_to old.session mid (exchange_of sent (take old.taken old.fed)) (piece_call (take count (drop old.taken new.fed)) old.key before middle) step.took.told
     takes = step.took.takes (exchange_of sent (take old.taken old.fed)) refl exchanged
 
     abbrev between : Exchange

@@ -8,15 +8,15 @@ use Rattle.ws_wire.specs.declared.role.Role.{Role}
 use Rattle.ws_session.specs.Limits.{LimitsValue}
 use Rattle.ws_frame.specs.Devices.{Device, HasRead, HasWritten}
 use Rattle.ws_session.specs.Exchange.{SessionValue, is_over}
-use Rattle.ws_peer.specs.Echoes.{IsEchoAfter}
-use Rattle.ws_peer.specs.InnerEchoLaws.{EchoLaws}
-use Rattle.ws_peer.specs.Driving.{DriveCall, Echoes, HasAnsweredAll, BeginsAnswers, ReadsInTurn, Drives, IsFairDriveEnd}
+use Rattle.ws_echo.specs.Echoes.{BeginsAnswers, DriveCall, Echoes, HasAnsweredAll, IsEchoAfter}
+use Rattle.ws_echo.specs.EchoLaws.{EchoLaws}
+use Rattle.ws_peer.specs.Driving.{ReadsInTurn, Drives, IsFairDriveEnd}
 use Rattle.ws_peer.specs.InnerSteps.{IsEchoOfCall, AnswersPiece, end_of_stop}
 use Rattle.ws_peer.specs.declared.driving.DriveEnd.{DriveEnd}
 use Rattle.ws_peer.specs.declared.driving.DriveEnd.TheVariants as end
 use Rattle.ws_peer.specs.declared.driving.Stop.{Stop}
 use Rattle.ws_peer.specs.declared.driving.Stop.TheVariants as stop
-use Rattle.ws_peer.proofs.Echoing.{has_echoed, front_begins}
+use Rattle.ws_echo.proofs.Echoing.{has_echoed, front_begins}
 
 abbrev pub call_of_drive : Role → LimitsValue → List ℕ → List ℕ → ℕ → DriveCall
 call_of_drive role limits key first budget = record { role = role; limits = limits; key = key; first = first; budget = budget }

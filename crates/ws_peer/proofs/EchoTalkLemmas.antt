@@ -19,11 +19,12 @@ use Rattle.ws_session.specs.Taking.{TakesAll, HasTakenAll}
 use Rattle.ws_peer.specs.declared.peer.Going.{Going}
 use Rattle.ws_peer.specs.declared.peer.Going.TheVariants.{Ended}
 use Rattle.ws_peer.specs.Talks.{Entry, Fed, Finished, PeerEnd, Says, fed_in, appended_in}
-use Rattle.ws_peer.specs.Echoes.{IsEchoAfter}
-use Rattle.ws_peer.specs.InnerEchoLaws.{EchoLaws}
+use Rattle.ws_echo.specs.Echoes.{IsEchoAfter}
+use Rattle.ws_echo.specs.EchoLaws.{EchoLaws}
 use Rattle.ws_peer.specs.EchoTalks.{EchoPeerValue, HasEchoedTalk, HasTakenSomething, IsAnsweredBy, IsEchoTalk, MayHaveHad}
 use Rattle.ws_peer.proofs.Talking.{fed_in-more, appended_in-more}
-use Rattle.ws_peer.proofs.Echoing.{Grown, call_of, echo_more, echo_new, has_echoed}
+use Rattle.ws_echo.proofs.Echoing.{Grown, echo_more, echo_new, has_echoed}
+use Rattle.ws_echo.specs.InnerEchoing.{piece_call}
 
 -- ---- lists
 
@@ -53,18 +54,18 @@ pub taken_nothing : (session : SessionValue) → HasExchanged session [] [] fals
 taken_nothing session h = record { exchange = record { sent = []; taken = []; ended = false }; goes_on = refl; exchanged = h }
 
 at_some : {reply : Event → List Frame} (old new : SessionValue) (piece key before after : List ℕ) (told_before told_after : List PlacedEvent) → (h : HasTakenSomething old)
-    → (t : HasTakenAll reply old new (call_of piece key before after) told_before told_after) → TakesAll reply old new h.exchange (call_of piece key before after) t.told
+    → (t : HasTakenAll reply old new (piece_call piece key before after) told_before told_after) → TakesAll reply old new h.exchange (piece_call piece key before after) t.told
 at_some old new piece key before after told_before told_after h t = t.takes h.exchange h.goes_on h.exchanged
 
 pub taken_more : {reply : Event → List Frame} (old new : SessionValue) (piece key before after : List ℕ) (told_before told_after : List PlacedEvent) → HasTakenSomething old
-    → HasTakenAll reply old new (call_of piece key before after) told_before told_after → HasTakenSomething new
+    → HasTakenAll reply old new (piece_call piece key before after) told_before told_after → HasTakenSomething new
 taken_more old new piece key before after told_before told_after h t =
     let s = at_some old new piece key before after told_before told_after h t in
     record { exchange = record { sent = _; taken = _; ended = h.exchange.ended }; goes_on = h.goes_on; exchanged = s.agrees }
 
 -- what is put is put after what was there
 pub put_after : {reply : Event → List Frame} (old new : SessionValue) (piece key before after : List ℕ) (told_before told_after : List PlacedEvent) → HasTakenSomething old
-    → HasTakenAll reply old new (call_of piece key before after) told_before told_after → StartsWith after before
+    → HasTakenAll reply old new (piece_call piece key before after) told_before told_after → StartsWith after before
 put_after old new piece key before after told_before told_after h t =
     let s = at_some old new piece key before after told_before told_after h t in
     begins_with after before _ s.put
@@ -104,11 +105,11 @@ had_more laws peer end talk entry k so_far is answered = record {
 
 -- a piece was fed
 had_fed : EchoLaws → (old new : EchoPeerValue) (end : PeerEnd) (talk : List Entry) (piece before after : List ℕ) (told_before told_after : List PlacedEvent) (going : Going)
-    → MayHaveHad old end talk → new.key ≡ old.key → HasTakenAll echo_reply_to old.session new.session (call_of piece old.key before after) told_before told_after
+    → MayHaveHad old end talk → new.key ≡ old.key → HasTakenAll echo_reply_to old.session new.session (piece_call piece old.key before after) told_before told_after
     → (going ≡ Ended) ↔ (is_over new.session.status ≡ true) → MayHaveHad new end (talk ++ Fed piece (drop (length before) after) going ∷ [])
 had_fed laws old new end talk piece before after told_before told_after going had same taken answered =
-    let under : HasTakenAll echo_reply_to old.session new.session (call_of piece end.key before after) told_before told_after =
-    subst (λ (k : List ℕ). HasTakenAll echo_reply_to old.session new.session (call_of piece k before after) told_before told_after) had.key taken in
+    let under : HasTakenAll echo_reply_to old.session new.session (piece_call piece end.key before after) told_before told_after =
+    subst (λ (k : List ℕ). HasTakenAll echo_reply_to old.session new.session (piece_call piece k before after) told_before told_after) had.key taken in
     let g : Grown end.role most_limits end.key (fed_in talk ++ piece) (appended_in talk) before after new.session =
     echo_more laws end.role most_limits end.key old.session new.session (fed_in talk) (appended_in talk) piece before after told_before told_after had.after under in
     let more : g.more ≡ drop (length before) after = the_rest after before g.more g.added in
@@ -119,7 +120,7 @@ had_fed laws old new end talk piece before after told_before told_after going ha
     (subst (λ (l : List ℕ). IsEchoAfter end.role most_limits end.key l false (appended_in talk ++ g.more) new.session) (sym (fed_in-more talk entry)) g.stands)) answered
 
 pub says_fed : EchoLaws → (old new : EchoPeerValue) (piece before after : List ℕ) (told_before told_after : List PlacedEvent) (going : Going) → HasTakenSomething old.session
-    → new.key ≡ old.key → HasTakenAll echo_reply_to old.session new.session (call_of piece old.key before after) told_before told_after
+    → new.key ≡ old.key → HasTakenAll echo_reply_to old.session new.session (piece_call piece old.key before after) told_before told_after
     → (going ≡ Ended) ↔ (is_over new.session.status ≡ true) → Says MayHaveHad old new (λ appended. Fed piece appended going) before after
 says_fed laws old new piece before after told_before told_after going some same taken answered = record {
   appended = drop (length before) after;

@@ -20,7 +20,7 @@ use Rattle.ws_suite.specs.Fairness.{IsEchoTranscript, ends_echo}
 use Rattle.ws_peer.specs.declared.peer.Going.{Going}
 use Rattle.ws_peer.specs.declared.peer.Going.TheVariants.{More, Ended}
 use Rattle.ws_peer.specs.Talks.{Entry, Fed, Finished, PeerEnd, appended_by, appended_in, fed_by, fed_in}
-use Rattle.ws_peer.specs.InnerEchoLaws.{EchoLaws}
+use Rattle.ws_echo.specs.EchoLaws.{EchoLaws}
 use Rattle.ws_peer.specs.EchoTalks.{HasEchoedTalk, IsAnsweredBy, IsEchoTalk, last_call}
 use Rattle.ws_peer.specs.Runs.{EndsByPeer, EndsByTester, PeerGoesOn, IsRunOf, joined_talk, pieces_by_turn, pieces_in, turn_of, with_finish}
 use Rattle.ws_peer.proofs.Talking.{fed_in-more}

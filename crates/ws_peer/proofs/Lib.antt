@@ -1,6 +1,5 @@
 -- The lemmas behind a run over a peer: an echo's replies, read by read, and the talk and the transcript that it has; and
 -- the same of an application.
-pub mod Echoing
 pub mod Driven
 pub mod Talking
 pub mod RunLemmas

@@ -2,49 +2,17 @@
 -- 7.1).
 use Rattle.std.specs.Prelude.{◌≡◌, ℕ, ◌<◌, ◌≤◌, Bool, true, false, List, ◌++◌, length, Option}
 use Rattle.std.specs.Io.KnownBytes.{IsAtEnd}
-use Rattle.ws_wire.specs.declared.role.Role.{Role}
 use Rattle.ws_frame.specs.Devices.{Device, HasRead, HasWritten}
 use Rattle.ws_session.specs.declared.status.Status.{Status}
-use Rattle.ws_session.specs.Limits.{LimitsValue}
 use Rattle.ws_session.specs.Exchange.{SessionValue, is_over}
-use Rattle.ws_peer.specs.Echoes.{HasEchoed, IsEchoAfter}
+use Rattle.ws_echo.specs.Echoes.{BeginsAnswers, DriveCall, Echoes, HasAnsweredAll, IsEchoAfter}
 use Rattle.ws_peer.specs.declared.driving.DriveEnd.{DriveEnd}
 use Rattle.ws_peer.specs.declared.driving.DriveEnd.TheVariants.{Done, ReadFault, WriteFault, Budget, NoMemory}
-
--- a call of `drive`: the role and limits of the echo, which is new, the masking key that it is handed, the bytes that
--- it is fed before it reads, and how many it may read
-pub record DriveCall : Type 0 where
-  pub role : Role
-  pub limits : LimitsValue
-  pub key : List ℕ
-  pub first : List ℕ
-  pub budget : ℕ
-
--- of these bytes, at whose end the stream has ended or not, these are the echo's replies, and it stands so
-abbrev pub Echoes : DriveCall → List ℕ → Bool → List ℕ → Status → Type 0
-Echoes call bytes ended put status = HasEchoed call.role call.limits call.key bytes ended put status
 
 -- the session is over before its stream has ended; or it is not, and the stream has, before the budget was used up
 abbrev pub EndsDriving : DriveCall → Bool → Status → List ℕ → Option (List ℕ) → Type 0
 EndsDriving call false status read unread = is_over status ≡ true
 EndsDriving call true status read unread = IsAtEnd unread × (length read < call.budget)
-
--- all that is due for what was read was written, and the session goes on
-abbrev pub HasAnsweredAll : DriveCall → List ℕ → List ℕ → Type 0
-HasAnsweredAll call read written =
-    (status : Status) × Echoes call (call.first ++ read) false written status × (is_over status ≡ false)
-
--- A beginning of what is due for what was read was written: the echo took a front of what it was fed, and this is a
--- beginning of its replies to that, and so of its replies to all
-pub record BeginsAnswers (call : DriveCall) (read written : List ℕ) : Type 0 where
-  pub front : List ℕ
-  pub later : List ℕ
-  pub parts : call.first ++ read ≡ front ++ later
-  pub status : Status
-  pub more : List ℕ
-  pub echoed : Echoes call front false (written ++ more) status
-  pub begins : (put : List ℕ) (ended : Bool) (then : Status) → Echoes call (call.first ++ read) ended put then
-      → (rest : List ℕ) × (put ≡ written ++ rest)
 
 -- what was written for what was read, by how the run ended, and what the reader had left
 abbrev pub IsDrivenTo : DriveCall → DriveEnd → Option (List ℕ) → List ℕ → List ℕ → Type 0

@@ -6,7 +6,7 @@ use Rattle.ws_session.specs.Sends.{most_limits}
 use Rattle.ws_session.specs.Exchange.{SessionValue, Exchange, HasExchanged, is_over}
 use Rattle.ws_peer.specs.declared.peer.Going.TheVariants.{Ended}
 use Rattle.ws_peer.specs.Talks.{Entry, Fed, Finished, PeerEnd, fed_in, appended_in}
-use Rattle.ws_peer.specs.Echoes.{HasEchoed, IsEchoAfter}
+use Rattle.ws_echo.specs.Echoes.{HasEchoed, IsEchoAfter}
 
 -- A call, after which the echo has this status: it has ended exactly where its session is over; and it appends nothing
 -- where it is told that no more comes.

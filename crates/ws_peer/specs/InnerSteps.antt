@@ -3,8 +3,7 @@
 use Rattle.std.specs.Prelude.{◌≡◌, ℕ, true, false, List, [], ◌++◌, Result, Ok, Err}
 use Rattle.ws_frame.specs.Devices.{Device, HasWritten}
 use Rattle.ws_session.specs.Exchange.{SessionValue}
-use Rattle.ws_peer.specs.Echoes.{IsEchoAfter}
-use Rattle.ws_peer.specs.Driving.{DriveCall}
+use Rattle.ws_echo.specs.Echoes.{DriveCall, IsEchoAfter}
 use Rattle.ws_peer.specs.declared.driving.DriveEnd.{DriveEnd}
 use Rattle.ws_peer.specs.declared.driving.DriveEnd.TheVariants as end
 use Rattle.ws_peer.specs.declared.driving.Stop.{Stop}

@@ -1,12 +1,10 @@
 pub mod Talks
-pub mod Echoes
 pub mod EchoTalks
 pub mod Runs
 pub mod EchoRuns
 pub mod Apps
 pub mod Driving
 pub mod Examples
-pub mod InnerEchoLaws
 pub mod InnerAppLaws
 pub mod InnerTurnRuns
 pub mod InnerSteps

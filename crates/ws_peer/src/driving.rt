@@ -4,12 +4,13 @@ ghost use Rattle.std.specs.Prelude.{◌≡◌, List, ℕ, [], false};
 ghost use Rattle.ws_frame.specs.Devices.{watched};
 ghost use Rattle.ws_frame.specs.Watching.{has_failed};
 ghost use Rattle.ws_session.specs.Exchange.{HasExchanged};
-ghost use Rattle.ws_peer.specs.Driving.{DriveCall, Drives, IsFairDriveEnd};
+ghost use Rattle.ws_echo.specs.Echoes.{DriveCall};
+ghost use Rattle.ws_peer.specs.Driving.{Drives, IsFairDriveEnd};
 ghost use Rattle.ws_peer.specs.InnerSteps.{AnswersPiece, IsEchoOfCall, end_of_stop};
 
-use crate::lemmas::echo_laws;
 use std::alloc::Global;
 use std::io::{Read, Write};
+use ws_echo::echo_laws;
 use ws_frame::{READ_SIZE, Watched, write_whole};
 use ws_session::{Echo, Status};
 

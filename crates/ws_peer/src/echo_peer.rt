@@ -8,11 +8,11 @@ ghost use Rattle.ws_peer.specs.declared.peer.Going.TheVariants.{Ended};
 ghost use Rattle.ws_peer.specs.EchoTalks.{MayHaveHad};
 ghost use Rattle.ws_peer.specs.EchoRuns.{echo_end};
 
-use crate::lemmas::echo_laws;
 use crate::peer::{Going, Peer};
 use std::alloc::Global;
 use std::marker::Model;
 use ws_base::NoMemory;
+use ws_echo::echo_laws;
 use ws_session::{Echo, Limits};
 use ws_wire::{NO_KEY, Role};
 

@@ -11,7 +11,8 @@ ghost use Rattle.ws_peer.specs.Talks.{Entry, PeerEnd, fed_in};
 ghost use Rattle.ws_peer.specs.EchoTalks.{IsEchoTalk};
 ghost use Rattle.ws_peer.specs.Runs.{IsRunOf};
 
-use crate::lemmas::{app_laws, echo_laws};
+use crate::lemmas::app_laws;
+use ws_echo::echo_laws;
 use ws_suite::laws::{
     an_apps_transcript_fails_nowhere, an_apps_transcript_passes, an_echos_transcript_passes,
 };

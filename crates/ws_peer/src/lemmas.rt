@@ -3,19 +3,8 @@
 ghost use Rattle.std.specs.Prelude.{Some};
 ghost use Rattle.ws_wire.specs.Header.{IsMaskingKey};
 ghost use Rattle.ws_peer.specs.InnerAppLaws.{AppLaws, SendLaws};
-ghost use Rattle.ws_peer.specs.InnerEchoLaws.{EchoLaws};
 
 use ws_session::laws;
-
-/// The laws of the layer below on what an echo makes of bytes.
-pub(crate) fn echo_laws()
-    ensures { EchoLaws }
-{
-    laws::one_list_of_events();
-    laws::events_go_on();
-    laws::replies_go_on();
-    laws::valid_frames_are_told();
-}
 
 /// The laws of the layer below on what an endpoint is told and what it replies.
 pub(crate) fn app_laws()

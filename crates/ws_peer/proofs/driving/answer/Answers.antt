@@ -2,7 +2,7 @@
 use Rattle.std.proofs.Common.{rules, List, ℕ, ◌++◌, sym, refl, subst, take, drop, take-append-drop}
 use Rattle.std.proofs.KnownBytes.{Appends-nil}
 use Rattle.ws_peer.specs.InnerSteps.{IsEchoOfCall}
-use Rattle.ws_peer.proofs.Echoing.{piece_answered}
+use Rattle.ws_echo.proofs.Echoing.{piece_answered}
 use Rattle.ws_peer.proofs.driving.answer.Goals as goal
 
 pub returns-in-Err : goal.returns-in-Err

@@ -8,9 +8,10 @@ use Rattle.ws_session.specs.declared.status.Status.{Status}
 use Rattle.ws_session.specs.Exchange.{SessionValue, is_over}
 use Rattle.ws_peer.specs.declared.driving.DriveEnd.{DriveEnd}
 use Rattle.ws_peer.specs.declared.driving.DriveEnd.TheVariants as end
-use Rattle.ws_peer.specs.Driving.{DriveCall, Drives}
+use Rattle.ws_echo.specs.Echoes.{DriveCall}
+use Rattle.ws_peer.specs.Driving.{Drives}
 use Rattle.ws_peer.specs.InnerSteps.{end_of_stop}
-use Rattle.ws_peer.proofs.Echoing.{echo_new, echo_ended}
+use Rattle.ws_echo.proofs.Echoing.{echo_new, echo_ended}
 use Rattle.ws_peer.proofs.Driven.{call_of_drive, stops_at_first, stops_at_read, has_begun, has_driven_more, done_when_over, ends_at_budget, ends_at_read_fault, done_at_end, fair_stop, gave_nothing, gave_at_most, gave_all}
 use Rattle.ws_peer.proofs.driving.drive.Goals as goal
 

@@ -2,7 +2,7 @@
 use Rattle.std.proofs.Common.{[]}
 use Rattle.ws_session.specs.Sends.{most_limits}
 use Rattle.ws_peer.proofs.AppReplies.{end_is_last}
-use Rattle.ws_peer.proofs.Echoing.{nothing_is_valid}
+use Rattle.ws_echo.proofs.Echoing.{nothing_is_valid}
 use Rattle.ws_peer.proofs.lemmas.app_laws.Goals as goal
 
 pub returns : goal.returns

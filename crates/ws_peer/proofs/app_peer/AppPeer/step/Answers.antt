@@ -8,7 +8,7 @@ use Rattle.ws_peer.specs.Apps.{AppPeerValue, MayHaveSaid, plan_after, planned, p
 use Rattle.ws_peer.specs.Talks.{PlannedStep}
 use Rattle.ws_peer.proofs.AppSends.{sends_none}
 use Rattle.ws_peer.proofs.AppTalkLemmas.{IsStep, planned_at, planned_none, says_fed, starts_on, still_short}
-use Rattle.ws_peer.proofs.Echoing.{call_of}
+use Rattle.ws_echo.specs.InnerEchoing.{piece_call}
 use Rattle.ws_peer.proofs.EchoTalkLemmas.{put_after, taken_more}
 use Rattle.ws_peer.proofs.app_peer.AppPeer.step.Goals as goal
 
@@ -84,7 +84,7 @@ returns-in_default-clause-said c =
       rest = none ∙ ap (λ (p : List PlannedStep). plan_after p) (sym none);
       told_before = [];
       told_after = told;
-      took = subst (λ (l : List ℕ). HasTakenAll reply_to inside.session c.pass.new.self (call_of l inside.key before after) [] told) shown took;
+      took = subst (λ (l : List ℕ). HasTakenAll reply_to inside.session c.pass.new.self (piece_call l inside.key before after) [] told) shown took;
       own = sends_none c.pass.new.self after;
       sends_so = ap (λ (p : List PlannedStep). sends_next p) none;
     } in
@@ -140,7 +140,7 @@ returns-clause-said c =
       rest = ap (λ (p : List PlannedStep). plan_after p) (sym there);
       told_before = [];
       told_after = told;
-      took = subst (λ (l : List ℕ). HasTakenAll reply_to inside.session c.pass-2.new.self (call_of l inside.key before middle) [] told) shown took;
+      took = subst (λ (l : List ℕ). HasTakenAll reply_to inside.session c.pass-2.new.self (piece_call l inside.key before middle) [] told) shown took;
       own = c.in_ok-send_each.ensures.sent;
       sends_so = ap (λ (p : List PlannedStep). sends_next p) there ∙ sym sends;
     } in

@@ -11,12 +11,16 @@ use Rattle.ws_session.specs.Limits.{LimitsValue}
 use Rattle.ws_session.specs.Events.{HasEvents}
 use Rattle.ws_session.specs.Replies.{echo_reply_to, echo_replies_of, replies_by, under_key}
 use Rattle.ws_session.specs.Exchange.{SessionValue, Exchange, HasExchanged, status_of}
-use Rattle.ws_session.specs.Taking.{TakeCall, TakesAll, HasTakenAll, events_in}
+use Rattle.ws_session.specs.Taking.{TakesAll, HasTakenAll, events_in}
 use Rattle.ws_session.specs.Sends.{most_limits}
 use Rattle.ws_session.specs.Validity.{AreValidFrames}
-use Rattle.ws_suite.specs.Fairness.{echo_bytes}
-use Rattle.ws_peer.specs.Echoes.{HasEchoed, IsEchoAfter}
-use Rattle.ws_peer.specs.InnerEchoLaws.{EchoLaws}
+use Rattle.ws_echo.specs.Echoes.{HasEchoed, IsEchoAfter}
+use Rattle.ws_echo.specs.EchoLaws.{EchoLaws}
+use Rattle.ws_echo.specs.InnerEchoing.{piece_call}
+
+-- what an echo puts for its events
+abbrev pub echo_bytes : Role → List ℕ → List Event → List ℕ
+echo_bytes role key events = stream_bytes (map (under_key role key) (echo_replies_of [] events))
 
 pub nothing_is_valid : AreValidFrames most_limits []
 nothing_is_valid = record {
@@ -26,9 +30,6 @@ nothing_is_valid = record {
   finished = tt;
   unfinished = record { frames = tt; size = omega arith; text = tt };
 }
-
-abbrev pub call_of : List ℕ → List ℕ → List ℕ → List ℕ → TakeCall
-call_of piece key before after = record { piece = piece; key = key; before = before; after = after }
 
 abbrev exchange_of : List Frame → List ℕ → Exchange
 exchange_of sent taken = record { sent = sent; taken = taken; ended = false }
@@ -54,11 +55,11 @@ pub record Grown (role : Role) (limits : LimitsValue) (key bytes put : List ℕ)
 
 -- one more piece
 pub echo_more : EchoLaws → (role : Role) (limits : LimitsValue) (key : List ℕ) (old new : SessionValue) (bytes put piece before after : List ℕ) (told_before told_after : List PlacedEvent)
-    → IsEchoAfter role limits key bytes false put old → HasTakenAll echo_reply_to old new (call_of piece key before after) told_before told_after → Grown role limits key (bytes ++ piece) put before after new
+    → IsEchoAfter role limits key bytes false put old → HasTakenAll echo_reply_to old new (piece_call piece key before after) told_before told_after → Grown role limits key (bytes ++ piece) put before after new
 echo_more laws role limits key old new bytes put piece before after told_before told_after is taken =
     let later = events_in taken.told in
     let sent : List Frame = echo_replies_of [] is.events in
-    let t : TakesAll echo_reply_to old new (exchange_of sent bytes) (call_of piece key before after) taken.told = taken.takes (exchange_of sent bytes) refl is.exchanged in
+    let t : TakesAll echo_reply_to old new (exchange_of sent bytes) (piece_call piece key before after) taken.told = taken.takes (exchange_of sent bytes) refl is.exchanged in
     let replied : List Frame = replies_by echo_reply_to sent later in
     let all : echo_replies_of [] (is.events ++ later) ≡ sent ++ replied = laws.replies is.events later in
     record {
@@ -115,11 +116,11 @@ front_begins laws role limits key front later put all events has is others more 
 
 -- what is put into an empty buffer for a piece
 pub piece_answered : EchoLaws → (role : Role) (limits : LimitsValue) (key given : List ℕ) (old new : SessionValue) (bytes put piece before after shown : List ℕ) (told_before told_after : List PlacedEvent)
-    → key ≡ given → IsEchoAfter role limits key bytes false put old → HasTakenAll echo_reply_to old new (call_of piece given before after) told_before told_after → before ≡ [] → shown ≡ after
+    → key ≡ given → IsEchoAfter role limits key bytes false put old → HasTakenAll echo_reply_to old new (piece_call piece given before after) told_before told_after → before ≡ [] → shown ≡ after
     → IsEchoAfter role limits key (bytes ++ piece) false (put ++ shown) new
 piece_answered laws role limits key given old new bytes put piece before after shown told_before told_after e is taken empty same =
-    let under : HasTakenAll echo_reply_to old new (call_of piece key before after) told_before told_after =
-    subst (λ (k : List ℕ). HasTakenAll echo_reply_to old new (call_of piece k before after) told_before told_after) (sym e) taken in
+    let under : HasTakenAll echo_reply_to old new (piece_call piece key before after) told_before told_after =
+    subst (λ (k : List ℕ). HasTakenAll echo_reply_to old new (piece_call piece k before after) told_before told_after) (sym e) taken in
     let g = echo_more laws role limits key old new bytes put piece before after told_before told_after is under in
     let more : g.more ≡ shown = sym (same ∙ g.added ∙ ap (λ (l : List ℕ). l ++ g.more) empty) in
     subst (λ (l : List ℕ). IsEchoAfter role limits key (bytes ++ piece) false (put ++ l) new) more g.stands

@@ -2,8 +2,8 @@
 use Rattle.std.proofs.Common.{[]}
 use Rattle.ws_session.specs.Replies.{echo_reply_to}
 use Rattle.ws_session.specs.Sends.{most_limits}
-use Rattle.ws_peer.proofs.Echoing.{nothing_is_valid}
-use Rattle.ws_peer.proofs.lemmas.echo_laws.Goals as goal
+use Rattle.ws_echo.proofs.Echoing.{nothing_is_valid}
+use Rattle.ws_echo.proofs.lemmas.echo_laws.Goals as goal
 
 pub returns : goal.returns
 returns c = record {

@@ -1,0 +1,4 @@
+pub mod Echoes
+pub mod EchoMachines
+pub mod EchoLaws
+pub mod InnerEchoing
