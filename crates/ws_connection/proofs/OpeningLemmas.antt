@@ -6,7 +6,6 @@ use Rattle.std.proofs.lemmas.List.Elements.{All-head, All-tail}
 use Rattle.std.specs.List.{All, concat}
 use Rattle.ws_upgrade.specs.Accept.{key_of}
 use Rattle.ws_scripts.specs.declared.transcript.Transcript.{Transcript}
-use Rattle.ws_scripts.specs.declared.transcript.Turn.{Turn}
 use Rattle.ws_machines.specs.Told.{Told, all_came, all_taken, came_by, taken_by}
 use Rattle.ws_machines.specs.Told.Told.{Came, Ended, ReadFailed, NothingCame, Taken, WriteFailed, DirectionEnded}
 use Rattle.ws_machines.specs.Told.Told.{Reported, DeadlinePassed}
@@ -29,11 +28,8 @@ use Rattle.ws_handshake.specs.declared.response_head.ResponseDecision.TheVariant
 use Rattle.ws_handshake.proofs.ProbeLemmas.{asked_came, nothing_asked}
 use Rattle.ws_connection.specs.ConnectionValues.{ConnectionValue, InputValue, OutputValue}
 use Rattle.ws_connection.specs.Connections.{IsNewConnection, ReadsBytes, WritesBytes, read_failed}
-use Rattle.ws_connection.specs.InnerDriving.{RecordsFrom, TellsFrom}
-use Rattle.ws_connection.specs.InnerOpening.{BeginsBehind, HasOpened, IsOpened, OpensOver}
+use Rattle.ws_connection.specs.InnerDriving.{BeginsBehind, HasOpened, IsOpened, OpensOver, RecordsFrom}
 use Rattle.ws_connection.specs.Probing.{AnswersProbe, AsksServer, Records, ReadsResponse, probe_nonce}
-use Rattle.ws_connection.specs.RunSteps.{TellsProbe}
-use Rattle.ws_connection.specs.Stages.{BeginsSomeRun}
 use Rattle.ws_connection.specs.StreamCalls.{DidCalls}
 use Rattle.ws_connection.specs.UpgradeRequests.{RequestValue, text_of_request}
 use Rattle.ws_connection.specs.declared.incoming.Incoming.{Incoming}
@@ -369,9 +365,6 @@ module _ (plan : PlanValue) (turns : List (List ℕ)) (request : RequestValue) (
     pub begun : BeginsBehind o.start tester told
     begun = at_stage (Running tester) runs
 
-    pub begins_some : BeginsSomeRun tester.run
-    begins_some = (script_behind o.start (drop begun.used begun.head), o.has_bytes, begun.begins)
-
     pub runs_behind : (transcript : Transcript) (z : ConnectionValue)
         → RecordsFrom tester.run transcript (between y z)
         → AnswersProbe plan turns request.offers text (Ran transcript) (between x z)
@@ -396,22 +389,6 @@ module _ (plan : PlanValue) (turns : List (List ℕ)) (request : RequestValue) (
           runs = subst (λ (l : List (List ℕ)). Records plan l behind transcript (between y z)) o.bytes
               (subst (λ (a : AskedValue). Records a.plan (map concat o.start.script) behind transcript (between y z))
               o.asked recorded);
-        }
-
-    pub tells_behind : {O : Type 0} (heard : O → O → List Turn → Type 0) (transcript : Transcript) (observer : O)
-        (z : ConnectionValue)
-        → TellsFrom heard tester.run (record { connection = y; observer = observer }) z
-        → TellsProbe heard request.offers (record { connection = x; observer = observer }) z (Ran transcript)
-    tells_behind heard transcript observer z tells =
-        let d : ResponseDecision = Accepted begun.used begun.protocol in
-        record {
-          head = begun.head;
-          used = begun.used;
-          protocol = begun.protocol;
-          is_head = reads_head begun.head d begun.got;
-          ready = y;
-          has_got = got_so begun.head d begun.got;
-          tells = tells (script_behind o.start (drop begun.used begun.head)) o.has_bytes begun.begins;
         }
 
   -- the head is to be refused

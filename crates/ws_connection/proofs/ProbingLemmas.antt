@@ -5,20 +5,16 @@ use Rattle.ws_scripts.specs.Scripts.{ArePieces, turn_bytes}
 use Rattle.ws_scripts.specs.declared.script.Chop.{Chop}
 use Rattle.ws_scripts.specs.declared.script.Step.{Step}
 use Rattle.ws_scripts.specs.declared.transcript.Transcript.{Transcript}
-use Rattle.ws_scripts.specs.declared.transcript.Turn.{Turn}
-use Rattle.ws_tester.specs.Following.{BeginsRun, TesterValue, WasTold}
+use Rattle.ws_machines.specs.Machines.{Extends, IsFirstWanted, ServedOne}
 use Rattle.ws_machines.specs.Told.{Told}
-use Rattle.ws_tester.specs.Outgoings.{HaveBytes, Pieces}
+use Rattle.ws_tester.specs.Following.{BeginsRun, Happens, ShowsTurns, TesterValue, WasTold}
+use Rattle.ws_tester.specs.Outgoings.{HaveBytes}
 use Rattle.ws_tester.specs.Records.{IsRecorded}
-use Rattle.ws_tester.specs.RunStates.{PlanValue, RunState, recorded}
+use Rattle.ws_tester.specs.RunStates.{RunState, wanted_in}
 use Rattle.ws_connection.specs.ConnectionValues.{ConnectionRun, ConnectionValue}
-use Rattle.ws_connection.specs.InnerDriving.{DidObserved}
-use Rattle.ws_connection.specs.Observing.{HearsTurns}
-use Rattle.ws_connection.specs.Probing.{FollowsInOrder, Records}
-use Rattle.ws_connection.specs.RunSteps.{IsToldInTime, RunStage, RunStep, TellsAsItGoes}
-use Rattle.ws_connection.specs.RunSteps.{calls_in, turns_told}
+use Rattle.ws_connection.specs.InnerDriving.{DrivesOver, RecordsFrom}
+use Rattle.ws_connection.specs.Probing.{FollowsInOrder}
 use Rattle.ws_connection.specs.StreamCalls.{DidCalls}
-use Rattle.ws_connection.proofs.StepLemmas.{steps_calls}
 use Rattle.ws_connection.proofs.StreamLaws.{did_read, did_write}
 
 -- a run between two connections
@@ -44,59 +40,69 @@ pieces_have_bytes chop key (steps ∷ turns) [] h = absurd h
 pieces_have_bytes chop key (steps ∷ turns) (pieces ∷ script) (is, h) =
     (is.none_empty, pieces_have_bytes chop key turns script h)
 
--- a tester that was run to its end has recorded what went over the connection
-pub runs_record : {O : Type 0} (heard : O → O → List Turn → Type 0) (plan : PlanValue) (script : List Pieces)
-    (first : List ℕ) (budget : ℕ) (start now : TesterValue) (x y : RunStage O) (transcript : Transcript)
-    → HaveBytes script → budget ≡ x.connection.input.allowance
-    → BeginsRun (record { plan = plan; script = script; budget = budget; first = first }) start.run
-    → (steps : List RunStep) → DidObserved heard x y steps → FollowsInOrder start.run now.run (calls_in steps)
-    → IsRecorded start.run (calls_in steps) transcript → IsRecorded now.run [] transcript
-    → Records plan (map concat script) first transcript (between x.connection y.connection)
-runs_record heard plan script first budget start now x y transcript pieces is begins steps done order recorded at_end =
-    let did : DidCalls x.connection y.connection (calls_in steps) = steps_calls heard x y steps done.did in
-    record {
-      script = script;
-      bytes = refl;
-      has_bytes = pieces;
-      told = calls_in steps;
-      did = did;
-      has_got = did_read x.connection y.connection (calls_in steps) did;
-      has_put = did_write x.connection y.connection (calls_in steps) did;
-      start = start.run;
-      begins = subst (λ (n : ℕ). BeginsRun (record { plan = plan; script = script; budget = n; first = first })
-          start.run) is begins;
-      in_order = record {
-        now = at_end.of_run.now;
-        follows = subst (λ (s : RunState). FollowsInOrder start.run s (calls_in steps)) (sym at_end.of_run.follows)
-            order;
-        turns = at_end.of_run.turns;
-        ended = at_end.of_run.ended;
-      };
-      recorded = recorded;
-    }
+-- ---- one thing more
 
--- and the observer was told of just the turns that are recorded
-pub runs_hears : {O : Type 0} (heard : O → O → List Turn → Type 0) (start now : TesterValue) (x y : RunStage O)
-    (transcript : Transcript) (steps : List RunStep) → DidObserved heard x y steps
-    → WasTold start now (calls_in steps) → turns_told [] steps ≡ recorded now.run
-    → ((first : TesterValue) (told : List Told) → WasTold first now told → IsRecorded first.run told transcript)
-    → HearsTurns heard x.observer y.observer transcript.turns
-runs_hears heard start now x y transcript steps done was told gives = λ first turns h.
-    subst (λ (l : List Turn). heard first y.observer (turns ++ l)) all_told (done.hears first turns h)
+-- some events in order, and then one that was wanted first
+order_more : (a b c : RunState) (told : List Told) (event : Told) → FollowsInOrder a b told → Happens b event c
+    → IsFirstWanted (wanted_in b) event → FollowsInOrder a c (told ++ event ∷ [])
+order_more a b c [] event same happens first = (
+  c,
+  subst (λ (s : RunState). Happens s event c) same happens,
+  subst (λ (s : RunState). IsFirstWanted (wanted_in s) event) same first,
+  refl,
+)
+order_more a b c (one ∷ told) event (next, happens, wanted, h) more first =
+    (next, happens, wanted, order_more next b c told event h more first)
+
+-- what happened to a tester that was told one thing
+one_event : (x y : TesterValue) (event : Told) → ShowsTurns x → Extends WasTold x y (event ∷ [])
+    → Happens x.run event y.run
+one_event x y event shows told = pick (told x [] (refl, shows)).0
   where
-    itself : IsRecorded now.run [] transcript
-    itself = gives now [] (refl, was.1)
+    pick : (next : RunState) × Happens x.run event next × (y.run ≡ next) → Happens x.run event y.run
+    pick (next, happens, same) = subst (λ (s : RunState). Happens x.run event s) (sym same) happens
 
-    all_told : turns_told [] steps ≡ transcript.turns
-    all_told = told ∙ sym (itself.of_run.turns ∙ ap (λ (r : RunState). recorded r) itself.of_run.follows)
+pub nothing_driven : (start : TesterValue) (x : ConnectionValue) → WasTold start start []
+    → DrivesOver start start (between x x)
+nothing_driven start x was = record { told = []; did = refl; was_told = was; in_order = refl }
 
--- before more was read of all by then
-pub runs_in_time : {O : Type 0} (heard : O → O → List Turn → Type 0) (first : List ℕ) (x y : RunStage O)
-    (steps : List RunStep) → DidObserved heard x y steps → IsToldInTime first [] steps
-    → TellsAsItGoes heard first x y.connection
-runs_in_time heard first x y steps done in_time = record {
-  observer = y.observer;
-  steps = steps;
-  did = done.did;
-  in_time = in_time;
+pub drives_more : (start old new : TesterValue) (x y z : ConnectionValue) → DrivesOver start old (between x y)
+    → ServedOne WasTold (λ (v : TesterValue). wanted_in v.run) DidCalls old new y z
+    → DrivesOver start new (between x z)
+drives_more start old new x y z over served = record {
+  told = over.told ++ served.event ∷ [];
+  did = served.done x over.told over.did;
+  was_told = served.told start over.told over.was_told;
+  in_order = order_more start.run old.run new.run over.told served.event over.in_order
+      (one_event old new served.event over.was_told.1 served.told) served.order;
+}
+
+-- ---- the end
+
+-- a tester that was run to its end has recorded what went over the connection
+pub drives_record : (start now : TesterValue) (x y : ConnectionValue) (transcript : Transcript)
+    → (over : DrivesOver start now (between x y)) → IsRecorded start.run over.told transcript
+    → IsRecorded now.run [] transcript → RecordsFrom start.run transcript (between x y)
+drives_record start now x y transcript over recorded at_end = λ script pieces begins is. record {
+  script = script.script;
+  bytes = refl;
+  has_bytes = pieces;
+  told = over.told;
+  did = over.did;
+  has_got = did_read x y over.told over.did;
+  has_put = did_write x y over.told over.did;
+  start = start.run;
+  begins = subst (λ (n : ℕ). BeginsRun (record {
+    plan = script.plan;
+    script = script.script;
+    budget = n;
+    first = script.first;
+  }) start.run) is begins;
+  in_order = record {
+    now = at_end.of_run.now;
+    follows = subst (λ (s : RunState). FollowsInOrder start.run s over.told) (sym at_end.of_run.follows) over.in_order;
+    turns = at_end.of_run.turns;
+    ended = at_end.of_run.ended;
+  };
+  recorded = recorded;
 }

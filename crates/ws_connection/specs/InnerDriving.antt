@@ -1,103 +1,73 @@
--- Inside the crate: a tester that is run on a stage, which is told of its turns. A reader may skip this file.
-use Rattle.std.specs.Prelude.{◌≡◌, ℕ, ◌⊎◌, Bool, true, false, List, [], ◌∷◌, ◌++◌, length, map, Option}
-use Rattle.std.specs.Borrow.{GName}
+-- Inside the crate: a probe that is served over a connection until the head of its answer is whole, or there is none;
+-- and a tester that is served over one until it is done. A reader may skip this file.
+use Rattle.std.specs.Prelude.{◌≡◌, ℕ, false, List, [], drop, map, Option}
 use Rattle.std.specs.List.{concat}
+use Rattle.ws_upgrade.specs.Accept.{key_of}
 use Rattle.ws_scripts.specs.declared.transcript.Transcript.{Transcript}
-use Rattle.ws_scripts.specs.declared.transcript.Turn.{Turn}
 use Rattle.ws_machines.specs.Told.{Told}
-use Rattle.ws_machines.specs.Machines.{Extends, IsFirstWanted, Wants}
+use Rattle.ws_machines.specs.Machines.{HasNext}
 use Rattle.ws_tester.specs.Following.{BeginsRun, ScriptValue, TesterValue, WasTold}
 use Rattle.ws_tester.specs.Outgoings.{HaveBytes}
-use Rattle.ws_tester.specs.RunStates.{RunState, wanted_in}
-use Rattle.ws_connection.specs.ConnectionValues.{ConnectionRun, ConnectionValue}
-use Rattle.ws_connection.specs.Observing.{HearsTurns, IsHearing}
-use Rattle.ws_connection.specs.Probing.{FollowsInOrder, Records}
-use Rattle.ws_connection.specs.RunSteps.{DidSteps, IsToldInTime, RunStage, RunStep, TellsAsItGoes, calls_in, turns_told}
-use Rattle.ws_connection.specs.RunSteps.RunStep.{Calls}
-use Rattle.ws_connection.specs.Stages.{ExtendsBy, IsStaged, IsTelling}
-use Rattle.ws_shown.specs.TurnsTold.{IsToldAtTurn, IsToldOfRun}
-use Rattle.ws_shown.specs.declared.turns_told.TurnsTold.{TurnsTold}
+use Rattle.ws_tester.specs.RunStates.{PlanValue, RunState, wanted_in}
+use Rattle.ws_handshake.specs.Probes.{GotHead, LosesAnswer, ProbeValue, RefusesHead, StillAsks, is_opening}
+use Rattle.ws_handshake.specs.Probes.{script_behind}
+use Rattle.ws_handshake.specs.declared.probe_machine.ProbeStage.{ProbeStage}
+use Rattle.ws_handshake.specs.declared.probe_machine.ProbeStage.TheVariants.{Opening, Running, Refused, Lost}
+use Rattle.ws_handshake.specs.declared.response_head.ResponseDecision.TheVariants.{Accepted}
+use Rattle.ws_connection.specs.ConnectionValues.{ConnectionRun}
+use Rattle.ws_connection.specs.Probing.{FollowsInOrder, Records, asked_over, probe_nonce}
+use Rattle.ws_connection.specs.StreamCalls.{DidCalls}
+use Rattle.ws_connection.specs.UpgradeRequests.{RequestValue, text_of_request}
 
--- ---- what is told of them
+-- ---- the head of an answer
 
--- a stage that told of some turns then told of others: only by telling
-pub record TellsMore {S : Type 0} (did : S → S → List RunStep → Type 0) (old_turns new_turns : List Turn)
-    (old new : S) : Type 0 where
-  pub steps : List RunStep
-  pub goes : (start : S) (before : List RunStep) → turns_told [] before ≡ old_turns → did start old before
-      → did start new (before ++ steps)
-  pub no_call : calls_in steps ≡ []
-  pub told : turns_told old_turns steps ≡ new_turns
+-- a tester has begun behind a head that is accepted, and was told nothing yet
+pub record BeginsBehind (start : ProbeValue) (tester : TesterValue) (told : List Told) : Type 0 where
+  pub head : List ℕ
+  pub used : ℕ
+  pub protocol : Option ℕ
+  pub got : GotHead start head (Accepted used protocol) told
+  pub begins : BeginsRun (script_behind start (drop used head)) tester.run
+  pub was_told : WasTold tester tester []
+  pub goes_on : HasNext (wanted_in tester.run)
 
--- it can be told of more
-pub record MayBeToldMore {S : Type 0} (did : S → S → List RunStep → Type 0) (told : TurnsTold) (stage : S) : Type 0
-  where
-    pub staged : IsStaged did stage
-    pub in_turn : told.is_sent ≡ true → IsTelling did stage
+-- how far a probe has come that was told just this
+abbrev pub HasOpened : ProbeStage → ProbeValue → ProbeValue → List Told → Type 0
+HasOpened Opening start now told = StillAsks start now told
+HasOpened (Running tester) start now told = BeginsBehind start tester told
+HasOpened (Refused refusal) start now told = RefusesHead start refusal told
+HasOpened Lost start now told = LosesAnswer start told
 
--- what was told of the turns that are over is told on, to their end
-pub record TellsPast {S : Type 0} (did : S → S → List RunStep → Type 0) (told : TurnsTold) (past : List Turn)
-    (turn : Turn) (turns : List Turn) (old new : S) : Type 0 where
-  pub new_turns : List Turn
-  pub tells : TellsMore did turns new_turns old new
-  pub told_at : IsToldAtTurn told past turn new_turns
+-- and over which connection
+pub record OpensOver (start now : ProbeValue) (run : ConnectionRun) : Type 0 where
+  pub told : List Told
+  pub did : DidCalls run.old run.new told
+  pub opens : HasOpened now.stage start now told
 
--- what was told of the turns of a run is told on, up to the turn under way, of which all is told once all of it is sent
-pub record TellsRun {S : Type 0} (did : S → S → List RunStep → Type 0) (x : RunState) (old_told new_told : TurnsTold)
-    (turns : List Turn) (old new : S) : Type 0 where
-  pub new_turns : List Turn
-  pub tells : TellsMore did turns new_turns old new
-  pub told_of : IsToldOfRun new_told x new_turns
-  pub all : x.begun ≡ true → (wanted_in x).write ≡ [] → new_turns ≡ x.past ++ x.turn ∷ []
-  pub none : x.begun ≡ false → new_turns ≡ turns
+-- A probe that was to put this request, and then to run a script by this plan whose turns have these bytes, was served
+-- over a connection until it stood so.
+pub record IsOpened (plan : PlanValue) (turns : List (List ℕ)) (request : RequestValue) (stage : ProbeStage)
+    (run : ConnectionRun) : Type 0 where
+  pub start : ProbeValue
+  pub now : ProbeValue
+  pub stands : stage ≡ now.stage
+  pub asked : start.asked ≡ asked_over plan request run.old.input.allowance
+  pub bytes : map concat start.script ≡ turns
+  pub has_bytes : HaveBytes start.script
+  pub request_is : start.rest ≡ text_of_request request (key_of probe_nonce)
+  pub none_read : start.read ≡ []
+  pub over : OpensOver start now run
+  pub is_decided : is_opening stage ≡ false
 
--- ---- a stage as a stream
+-- ---- a script
 
-abbrev pub calls_of : List Told → List RunStep
-calls_of told = map Calls told
-
--- one that is lent was called for just this; the borrows stay
-pub record DidOnStage {S : Type 0} (did : S → S → List RunStep → Type 0) (borrows : S → List (Option GName))
-    (old_name new_name : GName) (old new : S) (told : List Told) : Type 0 where
-  pub done : ExtendsBy did old new (calls_of told)
-  pub name : new_name ≡ old_name
-  pub same : borrows new ≡ borrows old
-
--- one thing that the machine wanted was done by its stage, and the machine was told just that
-pub record ServedOnStage {M S : Type 0} (agrees : M → M → List Told → Type 0) (wants : M → Wants)
-    (did : S → S → List RunStep → Type 0) (old_machine new_machine : M) (old_stage new_stage : S) : Type 0 where
-  pub event : Told
-  pub told : Extends agrees old_machine new_machine (event ∷ [])
-  pub done : ExtendsBy did old_stage new_stage (Calls event ∷ [])
-  pub order : IsFirstWanted (wants old_machine) event
-
--- ---- the run
-
--- a run that began so, on a stage
-pub record DrivesTo {S : Type 0} (did : S → S → List RunStep → Type 0) (start now : TesterValue) (old new : S)
-    : Type 0 where
-  pub steps : List RunStep
-  pub done : did old new steps
-  pub was_told : WasTold start now (calls_in steps)
-  pub in_order : FollowsInOrder start.run now.run (calls_in steps)
-  pub in_time : (run : ScriptValue) → HaveBytes run.script → BeginsRun run start.run → IsToldInTime run.first [] steps
-
--- and whose turns were told so far
-pub record DrivesSo {S : Type 0} (did : S → S → List RunStep → Type 0) (start now : TesterValue) (old new : S)
-    (told : TurnsTold) : Type 0 where
-  pub drives : DrivesTo did start now old new
-  pub told_of : IsToldOfRun told now.run (turns_told [] drives.steps)
-  pub none : now.run.begun ≡ false → turns_told [] drives.steps ≡ []
-
--- ---- a connection and an observer
-
--- from the first stage to the second one just these steps were done, and the observer, which was told of some turns
--- before, was told of just the turns in them
-pub record DidObserved {O : Type 0} (heard : O → O → List Turn → Type 0) (start now : RunStage O)
-    (steps : List RunStep) : Type 0 where
-  pub did : DidSteps heard start now steps
-  pub hearing : IsHearing heard start.observer
-  pub hears : HearsTurns heard start.observer now.observer (turns_told [] steps)
+-- A tester was served over a connection: it was told just what that did, call by call, each thing the first that it
+-- wanted then.
+pub record DrivesOver (start now : TesterValue) (run : ConnectionRun) : Type 0 where
+  pub told : List Told
+  pub did : DidCalls run.old run.new told
+  pub was_told : WasTold start now told
+  pub in_order : FollowsInOrder start.run now.run told
 
 -- a tester that was told nothing yet was run to its end over a connection, from this state on, as any script that
 -- begins so is recorded
@@ -105,8 +75,3 @@ abbrev pub RecordsFrom : RunState → Transcript → ConnectionRun → Type 0
 RecordsFrom start transcript run = (script : ScriptValue) → HaveBytes script.script → BeginsRun script start
     → script.budget ≡ run.old.input.allowance
     → Records script.plan (map concat script.script) script.first transcript run
-
--- and its observer was told in time
-abbrev pub TellsFrom : {O : Type 0} → (O → O → List Turn → Type 0) → RunState → RunStage O → ConnectionValue → Type 0
-TellsFrom heard start old connection = (script : ScriptValue) → HaveBytes script.script → BeginsRun script start
-    → TellsAsItGoes heard script.first old connection

@@ -7,10 +7,6 @@ pub mod Connections
 pub mod DeviceCalls
 pub mod StreamCalls
 pub mod Probing
-pub mod Observing
-pub mod RunSteps
-pub mod Stages
 pub mod Serving
 pub mod Admitting
 pub mod InnerDriving
-pub mod InnerOpening

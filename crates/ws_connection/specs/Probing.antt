@@ -27,7 +27,7 @@ use Rattle.ws_handshake.specs.declared.probe_machine.ProbeStage.TheVariants.{Ope
 use Rattle.ws_handshake.specs.declared.response_head.ResponseDecision.{ResponseDecision}
 use Rattle.ws_handshake.specs.declared.response_head.ResponseDecision.TheVariants.{Accepted, Refused as RefusedHead}
 use Rattle.ws_connection.specs.declared.probing.Asked.{Asked}
-use Rattle.ws_connection.specs.declared.probing.run.ScriptRun.{ScriptRun}
+use Rattle.ws_connection.specs.declared.driving.ScriptRun.{ScriptRun}
 use Rattle.ws_handshake.specs.declared.probe_end.HeadRefusal.{HeadRefusal}
 use Rattle.ws_handshake.specs.declared.probe_end.Probe.{Probe}
 use Rattle.ws_handshake.specs.declared.probe_end.Probe.TheVariants.{Ran, Refused, NoConnection}

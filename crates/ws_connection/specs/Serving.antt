@@ -10,7 +10,8 @@ use Rattle.ws_upgrade.specs.Reading.{max_head}
 use Rattle.ws_upgrade.specs.Texts.{refusal_bytes}
 use Rattle.ws_upgrade.specs.Words.{head_fault_name}
 use Rattle.ws_upgrade.specs.declared.faults.HeadFault.{HeadFault}
-use Rattle.ws_peer.specs.Driving.{DriveCall, ReadsInTurn, IsDrivenTo, IsFairDriveEnd}
+use Rattle.ws_echo.specs.Echoes.{DriveCall}
+use Rattle.ws_peer.specs.Driving.{ReadsInTurn, IsDrivenTo, IsFairDriveEnd}
 use Rattle.ws_peer.specs.declared.driving.DriveEnd.{DriveEnd}
 use Rattle.ws_peer.specs.declared.driving.DriveEnd.TheVariants as end
 use Rattle.ws_connection.specs.ReadingHeads.{ReadsHead}

@@ -1,7 +1,6 @@
 //! A connection as a tester holds it: a reader and a writer that belong together, watched as one.
 
-ghost use Rattle.std.specs.Prelude.{◌≡◌, ◌<◌, length, true, false};
-ghost use Rattle.std.specs.Io.KnownBytes.{Keeps};
+ghost use Rattle.std.specs.Prelude.{◌≡◌, ◌<◌, length, false};
 ghost use Rattle.ws_machines.specs.Machines.{FitsRead, FitsWrite};
 ghost use Rattle.ws_machines.specs.Told.{told_by_read, told_by_write};
 ghost use Rattle.ws_machines.specs.Told.Told.{DirectionEnded};
@@ -102,20 +101,6 @@ impl<R: WaitingRead, W: EndsDirection> Connection<R, W> {
         self.allowance
     }
 
-    /// Whether a write has failed.
-    pub fn has_write_failed(&self) -> bool
-        ensures { result ≡ self.now.output.failed }
-    {
-        self.writer.has_failed()
-    }
-
-    /// Whether its own direction was ended.
-    pub fn is_half_closed(&self) -> bool
-        ensures { result ≡ self.now.output.ended }
-    {
-        self.writer.is_ended()
-    }
-
     /// Reads once.
     pub fn read_once(&mut self, room: &mut [u8]) -> ReadOutcome
         requires { 0 < length room.old }
@@ -154,18 +139,6 @@ impl<R: WaitingRead, W: EndsDirection> Connection<R, W> {
         }
     }
 
-    /// Ends its own direction. It counts as ended also where the writer answers an error: nothing more is written.
-    pub fn end_direction(&mut self)
-        requires { self.old.output.ended ≡ false }
-        ensures ended { self.new.output.ended ≡ true }
-        ensures held { Keeps self.old.output.held self.new.output.held }
-        ensures input { self.new.input ≡ self.old.input }
-        ensures failed { self.new.output.failed ≡ self.old.output.failed }
-        ensures call { IsCallOf DirectionEnded (record { old = self.old; new = self.new }) }
-    {
-        self.end_once();
-    }
-
     /// The time limit of what is waited for begins anew.
     pub fn wait_anew(&mut self)
         ensures { self.new ≡ self.old }
@@ -173,7 +146,8 @@ impl<R: WaitingRead, W: EndsDirection> Connection<R, W> {
         self.timer.begin_wait();
     }
 
-    /// Ends its own direction, also where it was ended before.
+    /// Ends its own direction, also where it was ended before. It counts as ended also where the writer answers an
+    /// error.
     pub fn end_once(&mut self)
         ensures { IsCallOf DirectionEnded (record { old = self.old; new = self.new }) }
     {

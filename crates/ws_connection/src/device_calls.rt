@@ -147,25 +147,11 @@ impl<W: EndsDirection> WriteCalls<W> {
         self.writer
     }
 
-    /// Whether a write has failed.
-    pub fn has_failed(&self) -> bool
-        ensures { result ≡ self.now.failed }
-    {
-        self.has_failed
-    }
-
     /// Whether the deadline had passed by the last write.
     pub fn is_late(&self) -> bool
         ensures { result ≡ self.now.late }
     {
         self.is_late
-    }
-
-    /// Whether its direction was ended.
-    pub fn is_ended(&self) -> bool
-        ensures { result ≡ self.now.ended }
-    {
-        self.is_ended
     }
 
     /// Writes once.

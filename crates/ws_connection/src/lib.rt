@@ -5,40 +5,37 @@
 //! The layers above use `serve_one` (the clauses with `Serves`), `read_head` (those with `ReadsHead`) with
 //! `RequestHead` and `ResponseHead`, `probe_machine`, the machine of a probe for their loop (`BeginsProbe`),
 //! `protocols_of`, whose `Protocols` these take, and `headers_of`, whose `RequestHeaders` a request has. For a caller
-//! with one stream that waits there are drivers over the machines of `ws_handshake`: `probe` (`Probes`) over a
-//! `Connection`, `admit` (`Admits`) over one as a server, and `run_script` (`Records`) over one whose handshake is
-//! done. A `Connection` is a stream of `ws_machines`: what it tells is what its devices did (`DidCalls`). Its devices
-//! keep its limits of time (`WaitingRead`). `drive_stage` (`RunsOnStage`) runs a tester on any `Stage`: `probe` and
-//! `run_script` are that over a connection and its observer.
+//! with one stream that waits there are drivers over the machines of `ws_handshake` and `ws_tester`: `probe` (`Probes`)
+//! over a `Connection`, `admit` (`Admits`) over one as a server, and `run_script` (`Records`) over one whose handshake
+//! is done. A `Connection` is a stream of `ws_machines`: what it tells is what its devices did (`DidCalls`). Its
+//! devices keep its limits of time (`WaitingRead`).
 #![tactic(auto)]
 
 mod admitting;
 mod connection;
 mod device_calls;
+mod driving;
 mod ending;
 mod incoming;
-mod observer;
 mod probing;
 mod protocols;
 mod reading_head;
 mod request_headers;
 mod serving;
-mod stage;
 mod streaming;
 mod upgrade_request;
 mod waiting;
 
 pub use admitting::admit;
 pub use connection::Connection;
+pub use driving::{ScriptRun, probe, run_script};
 pub use ending::EndsDirection;
 pub use incoming::Incoming;
-pub use observer::{Observer, Silent};
-pub use probing::{Asked, NONCE, ScriptRun, drive_stage, probe, probe_machine, run_script};
+pub use probing::{Asked, NONCE, probe_machine};
 pub use protocols::{Protocols, protocols_of};
 pub use reading_head::{HeadEnd, HeadRoom, read_head};
 pub use request_headers::{RequestHeaders, headers_of};
 pub use serving::{Served, serve_one};
-pub use stage::Stage;
 pub use upgrade_request::UpgradeRequest;
 pub use waiting::{NoTimer, WaitTimer, WaitingRead};
 pub use ws_handshake::{

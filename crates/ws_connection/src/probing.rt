@@ -1,36 +1,17 @@
-//! A script that is run against a server: the opening handshake, and then its turns (RFC 6455 sections 4.1 and 5 to 7).
-
-mod driving;
-mod observed;
-mod opening;
-mod run;
-mod stage_stream;
-mod telling;
+//! What a server is asked for before a script is run against it (RFC 6455 section 4.1), and the machine that asks.
 
 ghost use Rattle.std.specs.Prelude.{◌≡◌, [], IfOk, Some};
 ghost use Rattle.ws_upgrade.specs.Accept.{key_of};
 ghost use Rattle.ws_scripts.specs.Scripts.{CanBeRun};
-ghost use Rattle.ws_connection.specs.Connections.{IsNewConnection};
-ghost use Rattle.ws_connection.specs.Observing.{HearsProbe, IsHearing};
-ghost use Rattle.ws_connection.specs.Probing.{BeginsProbe, Probes, asked_over, bytes_by_turn, plan_asked, probe_nonce};
-ghost use Rattle.ws_connection.specs.RunSteps.{TellsProbe};
-ghost use Rattle.ws_connection.specs.InnerOpening.{IsOpened};
 ghost use Rattle.ws_machines.specs.Machines.{HasNext};
 ghost use Rattle.ws_handshake.specs.Probes.{WasProbed, asked_of, wanted_of};
+ghost use Rattle.ws_connection.specs.Probing.{BeginsProbe, asked_over, bytes_by_turn, plan_asked, probe_nonce};
 ghost use Rattle.ws_connection.specs.UpgradeRequests.{CanBeAsked, request_value, text_of_request};
 
-use crate::connection::Connection;
-use crate::ending::EndsDirection;
-use crate::observer::Observer;
-use crate::probing::opening::open_over;
-use crate::probing::run::run_tester;
 use crate::upgrade_request::UpgradeRequest;
-use crate::waiting::WaitingRead;
-pub use driving::drive_stage;
-pub use run::{ScriptRun, run_script};
 use std::alloc::Global;
 use ws_base::NoMemory;
-use ws_handshake::{Probe, ProbeMachine, ProbePlan, ProbeStage, ResponseHead};
+use ws_handshake::{ProbeMachine, ProbePlan, ResponseHead};
 use ws_suite::{Case, Expectation, turns};
 use ws_tester::TestPlan;
 use ws_upgrade::{AddedHeaders, Host, Offers, Path, request_of};
@@ -71,62 +52,6 @@ impl<'a> Asked<'a> {
             budget,
         }
     }
-}
-
-/// Asks a server for an upgrade, runs a script against it as `run_script` does, and records what went over the
-/// connection: a `ProbeMachine` is served until its tester begins, and then that is. The pieces of each turn are sent
-/// in one write each where the writer takes them so. Neither the head nor what came with it counts as read behind it.
-///
-/// The observer is told of the run as it goes on, before more is read, and last of how it ended; of a connection over
-/// which no script was run, nothing. The run ends with an error of the observer's, as with want of memory.
-pub fn probe<R: WaitingRead, W: EndsDirection, O: Observer>(
-    alloc: Global,
-    case: &Case,
-    asked: &Asked<'_>,
-    connection: &mut Connection<R, W>,
-    observer: &mut O,
-) -> Result<Probe, O::Fault>
-    requires new { IsNewConnection connection.old }
-    requires runs { CanBeRun case.now }
-    requires request { CanBeAsked (request_value asked.now.request) }
-    requires hearing { IsHearing O.heard observer.old }
-    ensures probes { IfOk result (λ probe.
-        Probes (plan_asked asked.now) case.now asked.now.key (request_value asked.now.request) probe
-        (record { old = connection.old; new = connection.new })) }
-    ensures told { IfOk result (HearsProbe O.heard O.heard_all observer.old observer.new) }
-    ensures in_time { IfOk result (TellsProbe O.heard (request_value asked.now.request).offers
-        (record { connection = connection.old; observer = observer.old }) connection.new) }
-    ensures borrow { O.borrow observer.new ≡ O.borrow observer.old }
-{
-    let stage = opened_by(alloc, case, asked, connection)?;
-    match stage {
-        ProbeStage::Running(tester) => {
-            let transcript = run_tester(tester, connection, observer)?;
-            observer.ended(transcript.ended)?;
-            Ok(Probe::Ran(transcript))
-        }
-        ProbeStage::Refused(refusal) => Ok(Probe::Refused(refusal)),
-        ProbeStage::Lost => Ok(Probe::NoConnection),
-        // The head of the answer is whole, or there is none.
-        ProbeStage::Opening => unreachable!(),
-    }
-}
-
-/// Puts the request, and reads the head of the answer.
-fn opened_by<R: WaitingRead, W: EndsDirection>(
-    alloc: Global,
-    case: &Case,
-    asked: &Asked<'_>,
-    connection: &mut Connection<R, W>,
-) -> Result<ProbeStage, NoMemory>
-    requires runs { CanBeRun case.now }
-    requires request { CanBeAsked (request_value asked.now.request) }
-    ensures { IfOk result (λ stage. IsOpened (plan_asked asked.now) (bytes_by_turn case.now (Some asked.now.key))
-        (request_value asked.now.request) stage (record { old = connection.old; new = connection.new })) }
-{
-    let mut machine = probe_machine(alloc, case, asked, connection.allowance())?;
-    open_over(&mut machine, connection)?;
-    Ok(machine.into_stage())
 }
 
 /// The machine of `probe`, of which nothing was told yet. It may read so many bytes behind the head of the answer.
