@@ -8,7 +8,7 @@ use Rattle.std.proofs.lemmas.Bool.Decides.{eqb_tells}
 use Rattle.std.proofs.lemmas.Grind.{flat_map-append}
 use Rattle.std.proofs.lemmas.Option.{none-some, same_Some, slice_get_within}
 use Rattle.std.proofs.Common.{IfOk, IfSome, OnOk}
-use Rattle.std.specs.Prelude.{Result}
+use Rattle.std.specs.Prelude.{Result, Ok, Err}
 use Rattle.std.specs.List.{concat}
 use Rattle.std.proofs.lemmas.List.Folds.{concat-append}
 use Rattle.ws_machines.specs.Told.{Told}
@@ -18,7 +18,7 @@ use Rattle.ws_machines.specs.Machines.{Extends, HasNext, Wants, told_at}
 use Rattle.ws_machines.specs.declared.stream.StreamEvent.{StreamEvent}
 use Rattle.ws_loops.specs.Deeds.{Deed, Happened, HasDone, all_done, all_shown, all_told, done_by, shown_by}
 use Rattle.ws_loops.specs.Deeds.{told_by}
-use Rattle.ws_loops.specs.Deeds.Deed.{Did, HadNone, Passed, Showed, TookNone, Woken}
+use Rattle.ws_loops.specs.Deeds.Deed.{Did, Emptied, HadNone, Passed, Showed, TookNone, Woken}
 use Rattle.ws_loops.specs.Listeners.{AcceptDeed, HasArrived, HasHeardFor}
 use Rattle.ws_loops.specs.Loops.{HasGoneOn, HaveRun}
 use Rattle.ws_loops.specs.Looping.{IsEnding, LoopValue}
@@ -45,14 +45,15 @@ use Rattle.ws_handshake.specs.Admissions.{AdmitGives, AdmitValue, WasAdmitted}
 use Rattle.ws_handshake.specs.declared.admission.Admission.{Admission}
 use Rattle.ws_clients.specs.Clients.{AreClientsSound, AreNoneHeld, ClientsValue, EndsAtOnce, EndsSlot, HasBecome, HasCome}
 use Rattle.ws_clients.specs.Clients.{HasGoneOnTo, HasLines, HoldsBehind, IsAwaitedAt, IsHeldAt, IsLeaver, IsLeftAt}
-use Rattle.ws_clients.specs.Clients.{IsLimitAt, IsOfPlace, IsOverAs}
+use Rattle.ws_clients.specs.Clients.{IsLimitAt, IsOfPlace, IsOverAs, LingersAt}
 use Rattle.ws_clients.specs.Clients.{IsDeaf, IsPlayEnd, IsPlaying, IsTakenOut, KeepsPlays, PlaysOn, PlaysThere}
 use Rattle.ws_clients.specs.Clients.{IsNewlyHeld, StandsWhere, StayHeld, WasInVain, WasNoneHeld, held_stream, held_streams}
-use Rattle.ws_clients.specs.Clients.{line_told, lines_told}
+use Rattle.ws_clients.specs.Clients.{IsPlayedOut, PlayNoMore, PlayedOnly, PlaysAt, TellsPlayed, line_told, lines_told}
+use Rattle.ws_clients.specs.Numbers.{IsNoMore, TakesIn, numbers_left, stream_at}
 use Rattle.ws_clients.specs.Leaving.{LeaveValue, WasLeft, wanted_to_leave}
 use Rattle.ws_clients.specs.Talks.{BeginsTalk, IsAdmission, IsTalkOf, agrees_talk, wants_talk}
 use Rattle.ws_clients.specs.declared.clients.Event.{Event}
-use Rattle.ws_clients.specs.declared.clients.Event.TheVariants.{Deaf, Decided, Gone, Played, TooLate}
+use Rattle.ws_clients.specs.declared.clients.Event.TheVariants.{Deaf, Decided, Full, Gone, Played, TooLate}
 use Rattle.ws_clients.specs.declared.clients.Held.{Held}
 use Rattle.ws_clients.specs.declared.talking.Talk.{Talk}
 use Rattle.ws_clients.specs.declared.talking.Talk.TheVariants.{Admits, Leaves, Plays}
@@ -244,6 +245,7 @@ deed_lines wants pace now (Did WriteFailed) next = refl
 deed_lines wants pace now (Did DirectionEnded) next = refl
 deed_lines wants pace now (Did (Reported lines)) next = absurd next
 deed_lines wants pace now (Did (DeadlinePassed waited)) next = refl
+deed_lines wants pace now (Emptied bytes) next = refl
 deed_lines wants pace now HadNone next = refl
 deed_lines wants pace now TookNone next = refl
 deed_lines wants pace now (Showed lines) next = refl
@@ -834,6 +836,31 @@ module _ {M S : Type 0} (agrees : M → M → List Told → Type 0) (did : S →
       by (Plays start) begins told = absurd told
       by (Leaves start) begins told = absurd told
 
+  -- what came of what was played in such a slot, whose stream is held
+  pub played_held : {E : Type 0} (gives : M → List Told → E → Type 0) (known : List (List ℕ)) (slot : Slot (Talk M) S)
+      (machine : M) (end : E) (held : List (Option S)) (at : ℕ) → slot.machine ≡ Plays machine
+      → ((start : M) (told : List Told) → agrees start machine told → gives start told end)
+      → IsTalkOf agrees did known slot → IsHeldAt held at slot.stream
+      → (is : IsPlayedOut did gives end) × IsHeldAt held at is.last
+  played_held {E} gives known slot machine end held at is gave talk holds = by talk.start
+      (subst (λ (t : Talk M). agrees_talk agrees talk.start t (all_told talk.happened)) is talk.told)
+    where
+      by : (start : Talk M) → agrees_talk agrees start (Plays machine) (all_told talk.happened)
+          → (is : IsPlayedOut did gives end) × IsHeldAt held at is.last
+      by (Plays start) told = (
+        record {
+          start = start;
+          happened = talk.happened;
+          gave = gave start (all_told talk.happened) told;
+          first = talk.stream;
+          last = slot.stream;
+          done = talk.done;
+        },
+        holds,
+      )
+      by (Admits start) told = absurd told
+      by (Leaves start) told = absurd told
+
   -- it is held
   pub admitted_held : (known : List (List ℕ)) (slot : Slot (Talk M) S) (machine : AdmitValue) (admission : Admission)
       (held : List (Option S)) (at : ℕ) → slot.machine ≡ Admits machine
@@ -844,10 +871,11 @@ module _ {M S : Type 0} (agrees : M → M → List Told → Type 0) (did : S →
       let (came, last) = admitted known slot machine admission is gives talk in
       (came, subst (λ (s : S). IsHeldAt held at s) (sym last) holds)
 
--- a slot was put there with this time limit
-pub limit_now : {M S : Type 0} (old new : List (Place M S)) (at : ℕ) (slot : Slot M S) (limit : Option ℕ)
-    → at < length old → new ≡ slice_set old at (Open slot) → slot.pace.limit ≡ limit → IsLimitAt limit new at
-limit_now {M} {S} old new at slot limit within set is = (
+-- a slot was put there, of which this holds
+pub slot_now : {M S : Type 0} (Is : Slot M S → Type 0) (old new : List (Place M S)) (at : ℕ) (slot : Slot M S)
+    → at < length old → new ≡ slice_set old at (Open slot) → Is slot
+    → (there : Slot M S) × (slice_get new at ≡ Some (Open there)) × Is there
+slot_now {M} {S} Is old new at slot within set is = (
   slot,
   ap (λ (l : List (Place M S)). slice_get l at) set ∙ get_set_same old at (Open slot) within,
   is,
@@ -862,6 +890,11 @@ module _ {M S : Type 0} (at : ℕ) (seen value : ClientsValue M S) (places : Lis
     left_seen did h stream held =
         h stream (subst (λ (v : ClientsValue M S). IsHeldAt v.held at stream) (sym same) held)
 
+    pub lingers_seen : (now : ℕ) → ((stream : S) → IsHeldAt seen.held at stream → LingersAt now places at)
+        → (stream : S) → IsHeldAt value.held at stream → LingersAt now places at
+    lingers_seen now h stream held =
+        h stream (subst (λ (v : ClientsValue M S). IsHeldAt v.held at stream) (sym same) held)
+
     pub fresh_seen : {E W F : Type 0} (result : Result (Event E W) F)
         → IfOk result (λ event. IsNewlyHeld seen.held event) → IfOk result (λ event. IsNewlyHeld value.held event)
     fresh_seen {E} {W} {F} result h = subst (λ (v : ClientsValue M S).
@@ -870,6 +903,32 @@ module _ {M S : Type 0} (at : ℕ) (seen value : ClientsValue M S) (places : Lis
     pub held_seen : {V F : Type 0} (result : Result V F) (held : List (Option S)) → OnOk result (StayHeld seen.held held)
         → OnOk result (StayHeld value.held held)
     held_seen result held h = subst (λ (v : ClientsValue M S). OnOk result (StayHeld v.held held)) same h
+
+    pub takes_seen : {L E W F : Type 0} (did : L → L → List (AcceptDeed W) → Type 0) (old new : L)
+        (after : ClientsValue M S) (result : Result (Event E W) F)
+        → IfOk result (λ event. TakesIn did old new seen after event)
+        → IfOk result (λ event. TakesIn did old new value after event)
+    takes_seen {L} {E} {W} did old new after result h = subst (λ (v : ClientsValue M S).
+        IfOk result (λ (event : Event E W). TakesIn did old new v after event)) same h
+
+    pub only_seen : {E W F : Type 0} (result : Result (Event E W) F)
+        → IfOk result (λ event. PlayedOnly seen.places places (Some event))
+        → IfOk result (λ event. PlayedOnly value.places places (Some event))
+    only_seen {E} {W} result h = subst (λ (v : ClientsValue M S).
+        IfOk result (λ (event : Event E W). PlayedOnly v.places places (Some event))) same h
+
+    pub no_more_seen : PlayNoMore seen.places places → PlayNoMore value.places places
+    no_more_seen h = subst (λ (v : ClientsValue M S). PlayNoMore v.places places) same h
+
+    pub there_seen : ((other : ℕ) → PlaysAt places other → (other ≡ at) ⊎ PlaysAt seen.places other) → (other : ℕ)
+        → PlaysAt places other → (other ≡ at) ⊎ PlaysAt value.places other
+    there_seen h other plays =
+        subst (λ (v : ClientsValue M S). (other ≡ at) ⊎ PlaysAt v.places other) same (h other plays)
+
+    pub numbers_seen : (numbers : List (Option ℕ)) → numbers ≡ numbers_left (stream_at seen.held at) at seen.numbers
+        → numbers ≡ numbers_left (stream_at value.held at) at value.numbers
+    numbers_seen numbers h = subst (λ (v : ClientsValue M S).
+        numbers ≡ numbers_left (stream_at v.held at) at v.numbers) same h
 
     pub limit_seen : (result : Bool) → (result ≡ true → IsLimitAt seen.limits.limit places at) → result ≡ true
         → IsLimitAt value.limits.limit places at
@@ -927,8 +986,9 @@ module _ {M S L E W : Type 0} (did : S → S → List Deed → Type 0) (heard : 
   became_of : (event : Event E W) → IsOfPlace did at x.known event → HasBecome did heard now until listener x event
   became_of (Decided other admission) h = h.1
   became_of (Played other end) h = tt
-  became_of (Gone other) h = tt
+  became_of (Gone other number) h = tt
   became_of TooLate h = absurd h
+  became_of (Full why) h = absurd h
   became_of (Deaf why) h = absurd h
 
   pub became_so : (known : List (List ℕ)) (came : Option (Event E W)) → x.known ≡ known
@@ -938,27 +998,62 @@ module _ {M S L E W : Type 0} (did : S → S → List Deed → Type 0) (heard : 
   became_so known (Some event) same h =
       became_of event (subst (λ (k : List (List ℕ)). IsOfPlace did at k event) (sym same) h)
 
-  -- nobody is there
-  pub became_deaf : (why : W) (came : Option (Event E W)) → IsDeaf heard listener why
-      → IfSome came (λ event. event ≡ Deaf why)
-      → IfSome came (λ event. HasBecome did heard now until listener x event)
-  became_deaf why None deaf h = tt
-  became_deaf why (Some event) deaf h =
-      subst (λ (e : Event E W). HasBecome did heard now until listener x e) (sym h) deaf
+  -- no client can be taken
+  pub became_no_more : (numbers : List (Option ℕ)) (why : W) (event : Event E W) → IsDeaf heard listener why
+      → IsNoMore numbers why event → HasBecome did heard now until listener x event
+  became_no_more numbers why (Deaf reason) deaf h = subst (λ (r : W). IsDeaf heard listener r) (sym h.0) deaf
+  became_no_more numbers why (Full reason) deaf h = subst (λ (r : W). IsDeaf heard listener r) (sym h) deaf
+  became_no_more numbers why (Decided other admission) deaf h = absurd h
+  became_no_more numbers why (Played other end) deaf h = absurd h
+  became_no_more numbers why (Gone other number) deaf h = absurd h
+  became_no_more numbers why TooLate deaf h = absurd h
 
 -- where that is told nothing is told of a place
-pub deaf_stands : {M S E W : Type 0} (places : List (Place (Talk M) S)) (why : W) (came : Option (Event E W))
-    → IfSome came (λ event. event ≡ Deaf why) → IfSome came (λ event. StandsWhere places event)
-deaf_stands places why None h = tt
-deaf_stands {M} {S} {E} {W} places why (Some event) h =
-    subst (λ (e : Event E W). StandsWhere places e) (sym h) tt
+module _ {S E W : Type 0} (numbers : List (Option ℕ)) (why : W) where
+  pub no_more_stands : {M : Type 0} (places : List (Place (Talk M) S)) (event : Event E W) → IsNoMore numbers why event
+      → StandsWhere places event
+  no_more_stands places (Deaf reason) h = tt
+  no_more_stands places (Full reason) h = tt
+  no_more_stands places (Decided other admission) h = absurd h
+  no_more_stands places (Played other end) h = absurd h
+  no_more_stands places (Gone other number) h = absurd h
+  no_more_stands places TooLate h = absurd h
 
-pub deaf_holds : {S E W : Type 0} (did : S → S → List Deed → Type 0) (known : List (List ℕ)) (held : List (Option S))
-    (why : W) (came : Option (Event E W)) → IfSome came (λ event. event ≡ Deaf why)
-    → IfSome came (λ event. HoldsBehind did known held event)
-deaf_holds did known held why None h = tt
-deaf_holds {S} {E} {W} did known held why (Some event) h =
-    subst (λ (e : Event E W). HoldsBehind did known held e) (sym h) tt
+  pub no_more_holds : (did : S → S → List Deed → Type 0) (known : List (List ℕ)) (held : List (Option S))
+      (event : Event E W) → IsNoMore numbers why event → HoldsBehind did known held event
+  no_more_holds did known held (Deaf reason) h = tt
+  no_more_holds did known held (Full reason) h = tt
+  no_more_holds did known held (Decided other admission) h = absurd h
+  no_more_holds did known held (Played other end) h = absurd h
+  no_more_holds did known held (Gone other number) h = absurd h
+  no_more_holds did known held TooLate h = absurd h
+
+  pub no_more_fresh : (held : List (Option S)) (event : Event E W) → IsNoMore numbers why event
+      → IsNewlyHeld held event
+  no_more_fresh held (Deaf reason) h = tt
+  no_more_fresh held (Full reason) h = tt
+  no_more_fresh held (Decided other admission) h = absurd h
+  no_more_fresh held (Played other end) h = absurd h
+  no_more_fresh held (Gone other number) h = absurd h
+  no_more_fresh held TooLate h = absurd h
+
+  pub no_more_played : {M : Type 0} (did : S → S → List Deed → Type 0) (gives : M → List Told → E → Type 0)
+      (held : List (Option S)) (event : Event E W) → IsNoMore numbers why event → TellsPlayed did gives held event
+  no_more_played did gives held (Deaf reason) h = tt
+  no_more_played did gives held (Full reason) h = tt
+  no_more_played did gives held (Decided other admission) h = absurd h
+  no_more_played did gives held (Played other end) h = absurd h
+  no_more_played did gives held (Gone other number) h = absurd h
+  no_more_played did gives held TooLate h = absurd h
+
+  pub no_more_only : {M : Type 0} (old new : List (Place (Talk M) S)) (event : Event E W) → IsNoMore numbers why event
+      → PlayNoMore old new → PlayedOnly old new (Some event)
+  no_more_only old new (Deaf reason) h only = (only, tt)
+  no_more_only old new (Full reason) h only = (only, tt)
+  no_more_only old new (Decided other admission) h only = absurd h
+  no_more_only old new (Played other end) h only = absurd h
+  no_more_only old new (Gone other number) h only = absurd h
+  no_more_only old new TooLate h only = absurd h
 
 -- the same names are known
 pub same_known : (a b : Bor (List (Bor (List ℕ)))) → a ≡ b
@@ -979,8 +1074,9 @@ pub newly_since : {S E W : Type 0} (old now : List (Option S)) (event : Event E 
     → IsNewlyHeld now event → IsNewlyHeld old event
 newly_since old now (Decided at admission) stay h = λ stream held. h stream (stay at stream held)
 newly_since old now (Played at end) stay h = λ stream held. h stream (stay at stream held)
-newly_since old now (Gone at) stay h = λ stream held. h stream (stay at stream held)
+newly_since old now (Gone at number) stay h = λ stream held. h stream (stay at stream held)
 newly_since old now TooLate stay h = tt
+newly_since old now (Full why) stay h = tt
 newly_since old now (Deaf why) stay h = tt
 
 pub newly_told : {S E W : Type 0} (old now : List (Option S)) (came : Option (Event E W)) (event : Event E W)
@@ -994,12 +1090,6 @@ pub newly_so : {S E W : Type 0} (held after : List (Option (Held S))) (came : Op
 newly_so {S} {E} {W} held after came same h = subst (λ (l : List (Option (Held S))).
     IfSome came (λ (event : Event E W). IsNewlyHeld (held_streams l) event)) same h
 
-pub deaf_fresh : {S E W : Type 0} (held : List (Option S)) (why : W) (came : Option (Event E W))
-    → IfSome came (λ event. event ≡ Deaf why) → IfSome came (λ event. IsNewlyHeld held event)
-deaf_fresh held why None h = tt
-deaf_fresh {S} {E} {W} held why (Some event) h =
-    subst (λ (e : Event E W). IsNewlyHeld held e) (sym h) tt
-
 -- a time that has come has come later
 pub ended_later : (until : Option ℕ) (a b : ℕ) → a ≤ b → has_ended_by until a ≡ true → has_ended_by until b ≡ true
 ended_later None a b le h = absurd (false≢true h)
@@ -1011,3 +1101,8 @@ pub over_as : {M S : Type 0} (wants : Talk M → Wants) (until : Option ℕ) (no
 over_as wants until now l (ending.Ended at) h = h.0
 over_as wants until now l ending.TooLate h = tt
 over_as wants until now l ending.NoSlot h = tt
+
+-- what holds of all holds of what came
+pub always_so : {V F : Type 0} (result : Result V F) (P : Type 0) → P → IfOk result (λ value. P)
+always_so (Ok value) P p = p
+always_so (Err fault) P p = tt

@@ -10,7 +10,7 @@ use Rattle.ws_loops.specs.Deeds.Deed.{Did}
 use Rattle.ws_loops.specs.Listeners.{AcceptDeed, HasHeardLast}
 use Rattle.ws_loops.specs.Listeners.AcceptDeed.{CouldNotGive, HadNoClient}
 use Rattle.ws_loops.specs.Looping.{LoopValue}
-use Rattle.ws_loops.specs.Paces.{has_ended_by}
+use Rattle.ws_loops.specs.Paces.{has_ended_by, passes_at}
 use Rattle.ws_loops.specs.Places.{AreOccupied, IsOverAt}
 use Rattle.ws_loops.specs.Sinks.{HasTakenLines, lines_at}
 use Rattle.ws_loops.specs.declared.listening.Arrival.{Arrival}
@@ -25,19 +25,22 @@ use Rattle.ws_networks.specs.declared.bounds.Limits.{Limits}
 use Rattle.ws_upgrade.specs.Protocols.{AreOffers}
 use Rattle.ws_clients.specs.Talks.{IsAdmission, IsTalkOf, agrees_talk}
 use Rattle.ws_clients.specs.declared.clients.Event.{Event}
-use Rattle.ws_clients.specs.declared.clients.Event.TheVariants.{Deaf, Decided, Gone, Played, TooLate}
+use Rattle.ws_clients.specs.declared.clients.Event.TheVariants.{Deaf, Decided, Full, Gone, Played, TooLate}
 use Rattle.ws_clients.specs.declared.clients.Held.{Held}
 use Rattle.ws_clients.specs.declared.talking.Talk.{Talk}
 use Rattle.ws_clients.specs.declared.talking.Talk.TheVariants.{Admits, Leaves, Plays}
 
 -- The subprotocols that are known, and the limits of each connection; what stands in each place, and the stream that is
--- held beside it; and whether it was told that no client can be taken and nothing has ended since.
+-- held beside it; whether it was told that no client can be taken and nothing has ended since; how many clients have
+-- come, and the number of each that is there and isn't left, beside its place.
 pub record ClientsValue (M S : Type 0) : Type 0 where
   pub known : List (List ℕ)
   pub limits : Limits
   pub places : List (Place (Talk M) S)
   pub held : List (Option S)
   pub deaf : Bool
+  pub taken : ℕ
+  pub numbers : List (Option ℕ)
 
 -- the streams that are held
 abbrev pub held_stream : {S : Type 0} → Option (Held S) → Option S
@@ -48,13 +51,15 @@ abbrev pub held_streams : {S : Type 0} → List (Option (Held S)) → List (Opti
 held_streams held = map held_stream held
 
 abbrev pub clients_value : {M S : Type 0} → List (List ℕ) → Limits → LoopValue (Talk M) S → List (Option (Held S))
-    → ClientsValue M S
-clients_value known limits l held = record {
+    → ℕ → List (Option ℕ) → ClientsValue M S
+clients_value known limits l held taken numbers = record {
   known = known;
   limits = limits;
   places = l.places;
   held = held_streams held;
   deaf = l.deaf;
+  taken = taken;
+  numbers = numbers;
 }
 
 -- this place is kept for a client that waits
@@ -93,6 +98,11 @@ abbrev pub IsLimitAt : {M S : Type 0} → Option ℕ → List (Place M S) → �
 IsLimitAt {M} {S} limit places at = (slot : Slot M S) × (slice_get places at ≡ Some (Open slot))
     × (slot.pace.limit ≡ limit)
 
+-- the slot in this place, which began now, is served for 1800 milliseconds at most
+abbrev pub LingersAt : {M S : Type 0} → ℕ → List (Place M S) → ℕ → Type 0
+LingersAt {M} {S} now places at = (slot : Slot M S) × (slice_get places at ≡ Some (Open slot))
+    × (slot.pace.deadline ≡ passes_at (Some 1800) now)
+
 -- its client is left
 abbrev pub IsLeaver : {M : Type 0} → Talk M → Type 0
 IsLeaver (Admits machine) = ⊥
@@ -110,13 +120,55 @@ abbrev pub KeepsPlays : {M S : Type 0} → (M → M → List Told → Type 0) �
 KeepsPlays {M} {S} agrees did old new = (at : ℕ) (start : M) (stream : S) (happened : List Happened)
     → IsPlaying agrees did start stream happened old at → IsPlaying agrees did start stream happened new at
 
+-- it is what is played
+abbrev pub IsPlayer : {M : Type 0} → Talk M → Type 0
+IsPlayer (Admits machine) = ⊥
+IsPlayer (Plays machine) = ⊤
+IsPlayer (Leaves machine) = ⊥
+
+-- something is played in this place
+abbrev pub PlaysAt : {M S : Type 0} → List (Place (Talk M) S) → ℕ → Type 0
+PlaysAt {M} {S} places at = (slot : Slot (Talk M) S) × (slice_get places at ≡ Some (Open slot)) × IsPlayer slot.machine
+
+-- nothing is played where nothing was
+abbrev pub PlayNoMore : {M S : Type 0} → List (Place (Talk M) S) → List (Place (Talk M) S) → Type 0
+PlayNoMore old new = (at : ℕ) → PlaysAt new at → PlaysAt old at
+
+-- nothing is played in any place
+abbrev pub PlayNothing : {M S : Type 0} → List (Place (Talk M) S) → Type 0
+PlayNothing places = (at : ℕ) → PlaysAt places at → ⊥
+
+-- where it tells what came of what was played, something was played in that place
+abbrev pub WasPlayed : {M S E W : Type 0} → List (Place (Talk M) S) → Event E W → Type 0
+WasPlayed places (Played at end) = PlaysAt places at
+WasPlayed places (Decided at admission) = ⊤
+WasPlayed places (Gone at number) = ⊤
+WasPlayed places TooLate = ⊤
+WasPlayed places (Full why) = ⊤
+WasPlayed places (Deaf why) = ⊤
+
+-- where it tells what came of what was played, that is what this is
+abbrev pub IsOfPlayer : {M E W : Type 0} → Talk M → Event E W → Type 0
+IsOfPlayer machine (Played at end) = IsPlayer machine
+IsOfPlayer machine (Decided at admission) = ⊤
+IsOfPlayer machine (Gone at number) = ⊤
+IsOfPlayer machine TooLate = ⊤
+IsOfPlayer machine (Full why) = ⊤
+IsOfPlayer machine (Deaf why) = ⊤
+
+-- nothing is played where nothing was, and the end is told only of what was
+abbrev pub PlayedOnly : {M S E W : Type 0} → List (Place (Talk M) S) → List (Place (Talk M) S) → Option (Event E W)
+    → Type 0
+PlayedOnly old new None = PlayNoMore old new
+PlayedOnly old new (Some event) = PlayNoMore old new × WasPlayed old event
+
 -- This tells what came of what was played in this place, where just this happened there: it follows from what its
 -- machine was told, and that is what its stream did; or that memory ran out for it.
 abbrev pub IsPlayEnd : {M S E W : Type 0} → (S → S → List Deed → Type 0) → (M → List Told → E → Type 0) → M → S → ℕ
     → List Happened → Event E W → Type 0
 IsPlayEnd {M} {S} did gives start stream at happened (Played other end) = (other ≡ at)
     × gives start (all_told happened) end × ((last : S) × HasDone did stream last (all_done happened))
-IsPlayEnd did gives start stream at happened (Gone other) = other ≡ at
+IsPlayEnd did gives start stream at happened (Gone other number) = other ≡ at
 IsPlayEnd did gives start stream at happened event = ⊥
 
 -- the lines of which it was told that they were taken
@@ -188,16 +240,18 @@ abbrev pub HasBecome : {M S L E W : Type 0} → (S → S → List Deed → Type 
     → Option ℕ → L → ClientsValue M S → Event E W → Type 0
 HasBecome did heard now until listener x (Decided at admission) = IsAdmission did x.known admission
 HasBecome did heard now until listener x (Played at end) = ⊤
-HasBecome did heard now until listener x (Gone at) = ⊤
+HasBecome did heard now until listener x (Gone at number) = ⊤
 HasBecome did heard now until listener x TooLate = (has_ended_by until now ≡ true) × IsAskedInVain heard listener x
+HasBecome did heard now until listener x (Full why) = IsDeaf heard listener why
 HasBecome did heard now until listener x (Deaf why) = IsDeaf heard listener why
 
 -- the client of which it tells waits in its place, or its place is empty
 abbrev pub StandsWhere : {M S E W : Type 0} → List (Place (Talk M) S) → Event E W → Type 0
 StandsWhere places (Decided at admission) = IsAwaitedAt places at
 StandsWhere places (Played at end) = IsAwaitedAt places at
-StandsWhere places (Gone at) = slice_get places at ≡ Some Empty
+StandsWhere places (Gone at number) = slice_get places at ≡ Some Empty
 StandsWhere places TooLate = ⊤
+StandsWhere places (Full why) = ⊤
 StandsWhere places (Deaf why) = ⊤
 
 -- the stream of the client of which it tells is held beside its place: that from which its request was read, where that
@@ -206,24 +260,47 @@ abbrev pub HoldsBehind : {S E W : Type 0} → (S → S → List Deed → Type 0)
     → Type 0
 HoldsBehind did known held (Decided at admission) = (is : IsAdmission did known admission) × IsHeldAt held at is.last
 HoldsBehind {S} did known held (Played at end) = (stream : S) × IsHeldAt held at stream
-HoldsBehind did known held (Gone at) = ⊤
+HoldsBehind did known held (Gone at number) = ⊤
 HoldsBehind did known held TooLate = ⊤
+HoldsBehind did known held (Full why) = ⊤
 HoldsBehind did known held (Deaf why) = ⊤
+
+-- This came of what was played: some machine gives it, by all that it was told, and that is what a stream did.
+pub record IsPlayedOut {M S E : Type 0} (did : S → S → List Deed → Type 0) (gives : M → List Told → E → Type 0)
+    (end : E) : Type 0 where
+  pub start : M
+  pub happened : List Happened
+  pub gave : gives start (all_told happened) end
+  pub first : S
+  pub last : S
+  pub done : HasDone did first last (all_done happened)
+
+-- where it tells what came of what was played, that is so, and the stream is the one that is held beside the place
+abbrev pub TellsPlayed : {M S E W : Type 0} → (S → S → List Deed → Type 0) → (M → List Told → E → Type 0)
+    → List (Option S) → Event E W → Type 0
+TellsPlayed did gives held (Played at end) = (is : IsPlayedOut did gives end) × IsHeldAt held at is.last
+TellsPlayed did gives held (Decided at admission) = ⊤
+TellsPlayed did gives held (Gone at number) = ⊤
+TellsPlayed did gives held TooLate = ⊤
+TellsPlayed did gives held (Full why) = ⊤
+TellsPlayed did gives held (Deaf why) = ⊤
 
 -- nothing was held before beside the place of which it tells
 abbrev pub IsNewlyHeld : {S E W : Type 0} → List (Option S) → Event E W → Type 0
 IsNewlyHeld {S} held (Decided at admission) = (stream : S) → IsHeldAt held at stream → ⊥
 IsNewlyHeld {S} held (Played at end) = (stream : S) → IsHeldAt held at stream → ⊥
-IsNewlyHeld {S} held (Gone at) = (stream : S) → IsHeldAt held at stream → ⊥
+IsNewlyHeld {S} held (Gone at number) = (stream : S) → IsHeldAt held at stream → ⊥
 IsNewlyHeld held TooLate = ⊤
+IsNewlyHeld held (Full why) = ⊤
 IsNewlyHeld held (Deaf why) = ⊤
 
 -- it is told of this place
 abbrev pub IsOfPlace : {S E W : Type 0} → (S → S → List Deed → Type 0) → ℕ → List (List ℕ) → Event E W → Type 0
 IsOfPlace did at known (Decided other admission) = (other ≡ at) × IsAdmission did known admission
 IsOfPlace did at known (Played other end) = other ≡ at
-IsOfPlace did at known (Gone other) = other ≡ at
+IsOfPlace did at known (Gone other number) = other ≡ at
 IsOfPlace did at known TooLate = ⊥
+IsOfPlace did at known (Full why) = ⊥
 IsOfPlace did at known (Deaf why) = ⊥
 
 -- What holds by now where this has arrived: what went on in this place has ended; the place is empty, and the stream

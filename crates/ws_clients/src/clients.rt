@@ -1,18 +1,23 @@
 //! The clients of a listener, in one loop. Of one whose request was decided, or to which all was played, the stream is
 //! held beside its place, until it is said what is next for it.
 
-ghost use Rattle.std.specs.Prelude.{◌≡◌, ◌<◌, [], true, false, None, Some, IfOk, IfSome, OnOk, length, map, slice_get};
-ghost use Rattle.std.specs.Prelude.{slice_set};
+ghost use Rattle.std.specs.Prelude.{◌≡◌, ◌<◌, ◌+◌, ◌⊎◌, ℕ, [], true, false, None, Some, IfOk, IfSome, OnOk, length};
+ghost use Rattle.std.specs.Prelude.{map, slice_get, slice_set};
 ghost use Rattle.ws_machines.specs.Machines.{HasNext};
+ghost use Rattle.ws_loops.specs.Listeners.{HasHeardFor};
 ghost use Rattle.ws_loops.specs.Places.{IsOverAt};
-ghost use Rattle.ws_loops.specs.declared.places.Place.TheVariants.{Empty};
+ghost use Rattle.ws_loops.specs.declared.places.Place.TheVariants.{Empty, Open};
 ghost use Rattle.ws_upgrade.specs.Protocols.{AreOffers};
 ghost use Rattle.ws_clients.specs.Talks.{IsTalkOf, wants_talk};
 ghost use Rattle.ws_clients.specs.Clients.{AreClientsSound, AreNoneHeld, EndsAtOnce, EndsSlot, HasBecome, HasCome};
 ghost use Rattle.ws_clients.specs.Clients.{HasGoneOnTo, HoldsBehind, IsAwaitedAt, IsHeldAt, IsLeftAt, IsLimitAt};
+ghost use Rattle.ws_clients.specs.Clients.{TellsPlayed};
 ghost use Rattle.ws_clients.specs.Clients.{IsNewlyHeld, IsOfPlace, IsOverAs, IsPlaying, IsTakenOut, KeepsPlays};
 ghost use Rattle.ws_clients.specs.Clients.{PlaysOn, StandsWhere, StayHeld, WasNoneHeld, clients_value, held_streams};
-ghost use Rattle.ws_clients.specs.declared.clients.Event.TheVariants.{Deaf};
+ghost use Rattle.ws_clients.specs.Clients.{IsOfPlayer, LingersAt, PlayNoMore, PlayNothing, PlayedOnly, PlaysAt};
+ghost use Rattle.ws_clients.specs.Numbers.{AreNumbers, AreNumbersBut, AreNumbersSound, AreUnnumbered, IsNoMore};
+ghost use Rattle.ws_clients.specs.Numbers.{IsNumberedAt, IsOfNumber, TakesClients, TakesIn, client_number};
+ghost use Rattle.ws_clients.specs.Numbers.{numbers_behind, numbers_left, stream_at};
 
 use crate::leaving::Leaver;
 use crate::talking::Talk;
@@ -47,10 +52,13 @@ pub enum Event<E, W> {
     Decided(usize, Admission),
     /// What was played to the client in this place has ended, and this came of it.
     Played(usize, E),
-    /// Memory ran out for the client in this place, which is gone.
-    Gone(usize),
+    /// Memory ran out for the client in this place, which is gone. It had this number, if it wasn't left before.
+    Gone(usize, Option<u64>),
     /// The time has come until which one was waited for.
     TooLate,
+    /// No client can be taken for now, for this reason, while some are there. It is told each time that the listener
+    /// says so; it is asked again once something has ended.
+    Full(W),
     /// Nobody is there, and no client can be taken any more, for this reason.
     Deaf(W),
 }
@@ -73,6 +81,10 @@ pub(crate) struct Inside<'a, M: Machine + Drop, S> {
     pub(crate) limits: Limits,
     pub(crate) all: Loop<Talk<'a, M>, S>,
     pub(crate) held: Vec<Option<Held<S>>>,
+    /// So many have come.
+    pub(crate) taken: u64,
+    /// The number of each client that is there and isn't left, beside its place.
+    pub(crate) numbers: Vec<Option<u64>>,
     /// So many are there.
     pub(crate) there: usize,
     /// To so many something is played, or they are left.
@@ -81,8 +93,9 @@ pub(crate) struct Inside<'a, M: Machine + Drop, S> {
     pub(crate) is_broken: bool,
 }
 
-/// The clients of a listener, of which so many can be there at a time. Contracts see the subprotocols that are known,
-/// the limits of each connection, what stands in each place of their loop, and the streams that are held beside them.
+/// The clients of a listener, of which so many can be there at a time. They are numbered from 1, in the order in which
+/// they come. Contracts see the subprotocols that are known, the limits of each connection, what stands in each place
+/// of their loop, the streams that are held and the numbers that stand beside them, and how many have come.
 #[derive(Drop)]
 pub struct Clients<'a, M: Machine + Drop, S: NonBlocking> {
     inside: Inside<'a, M, S>,
@@ -91,14 +104,16 @@ pub struct Clients<'a, M: Machine + Drop, S: NonBlocking> {
 impl<'a, M: Machine + Drop, S: NonBlocking> Model for Clients<'a, M, S> {
     ghost use Rattle.std.specs.Prelude.{map};
     ghost use Rattle.ws_clients.specs.Clients.{AreClientsSound, ClientsValue, clients_value};
+    ghost use Rattle.ws_clients.specs.Numbers.{AreNumbersSound};
 
     ghost Value = { ClientsValue M S };
 
     ghost view = { λ x. clients_value (map (λ name. name.now) x.inside.known.now) x.inside.limits x.inside.all
-        x.inside.held.items };
+        x.inside.held.items x.inside.taken x.inside.numbers.items };
 
     ghost invariant = { λ x. AreClientsSound M.agrees S.did (map (λ name. name.now) x.inside.known.now) x.inside.all
-        x.inside.held.items x.inside.is_broken };
+        x.inside.held.items x.inside.is_broken
+        × AreNumbersSound x.inside.all.places x.inside.taken x.inside.numbers.items x.inside.is_broken };
 }
 
 impl<'a, M: Machine + Drop, S: NonBlocking + Drop> Clients<'a, M, S>
@@ -116,9 +131,27 @@ where
         requires { AreOffers (map (λ name. name.now) known.now) }
         ensures known { IfOk result (λ made. made.known ≡ map (λ name. name.now) known.now) }
         ensures limits { IfOk result (λ made. made.limits ≡ limits) }
+        ensures taken { IfOk result (λ made. made.taken ≡ 0) }
+        ensures len { IfOk result (λ made. length made.numbers ≡ len) }
+        ensures numbers { IfOk result (λ made. AreUnnumbered made.numbers) }
+        ensures plays { IfOk result (λ made. PlayNothing made.places) }
     {
         let inside = new_inside(alloc, known, limits, len)?;
         Ok(Clients { inside })
+    }
+
+    /// How many have come.
+    pub fn taken(&self) -> u64
+        ensures { result ≡ self.now.taken }
+    {
+        self.inside.taken
+    }
+
+    /// The number of the client in this place, if one is there and isn't left.
+    pub fn number(&self, at: usize) -> Option<u64>
+        ensures { result ≡ client_number self.now.numbers at }
+    {
+        number_of(self.inside.numbers.as_slice(), at)
     }
 
     /// Serves all clients, and takes those that come, until the request of one is decided, what was played to one has
@@ -140,6 +173,10 @@ where
         ensures held { OnOk result (StayHeld self.old.held self.new.held) }
         ensures plays { IfOk result (λ event. PlaysOn K.heard M.agrees S.did M.gives self.old.places self.new.places
             sink.old sink.new (Some event)) }
+        ensures played { IfOk result (TellsPlayed S.did M.gives self.new.held) }
+        ensures only { IfOk result (λ event. PlayedOnly self.old.places self.new.places (Some event)) }
+        ensures takes { IfOk result (λ event. TakesIn L.did listener.old listener.new self.old self.new event) }
+        ensures apart { IfOk result (λ event. AreNumbers self.new.taken self.new.numbers) }
         ensures known { OnOk result (self.new.known ≡ self.old.known) }
         ensures limits { OnOk result (self.new.limits ≡ self.old.limits) }
     {
@@ -153,9 +190,12 @@ where
         ensures plays { result ≡ true → (stream : S) × IsHeldAt self.old.held at stream
             × IsPlaying M.agrees S.did machine stream [] self.new.places at }
         ensures begins { (stream : S) → IsHeldAt self.old.held at stream → result ≡ true }
+        ensures only { (other : ℕ) → PlaysAt self.new.places other → (other ≡ at) ⊎ PlaysAt self.old.places other }
         ensures limit { result ≡ true → IsLimitAt self.old.limits.limit self.new.places at }
         ensures held { self.new.held ≡ slice_set self.old.held at None }
         ensures others { KeepsPlays M.agrees S.did self.old.places self.new.places }
+        ensures taken { self.new.taken ≡ self.old.taken }
+        ensures numbers { self.new.numbers ≡ self.old.numbers }
         ensures known { self.new.known ≡ self.old.known }
         ensures limits { self.new.limits ≡ self.old.limits }
     {
@@ -163,12 +203,16 @@ where
     }
 
     /// Leaves the client in this place, if one waits there: its stream is ended from this side, and what it still sends
-    /// is read and dropped for a while.
+    /// is read and dropped for a while. It has no number any more.
     pub fn leave(&mut self, at: usize, now: u64)
         ensures leaves { (stream : S) → IsHeldAt self.old.held at stream →
             IsLeftAt S.did stream self.new.places at }
+        ensures lingers { (stream : S) → IsHeldAt self.old.held at stream → LingersAt now self.new.places at }
+        ensures only { PlayNoMore self.old.places self.new.places }
         ensures held { self.new.held ≡ slice_set self.old.held at None }
         ensures others { KeepsPlays M.agrees S.did self.old.places self.new.places }
+        ensures taken { self.new.taken ≡ self.old.taken }
+        ensures numbers { self.new.numbers ≡ numbers_left (stream_at self.old.held at) at self.old.numbers }
         ensures known { self.new.known ≡ self.old.known }
         ensures limits { self.new.limits ≡ self.old.limits }
     {
@@ -184,6 +228,9 @@ where
         room: &mut [u8],
     ) -> Result<(), K::Fault>
         requires room { 0 < length room.old }
+        ensures known { self.new.known ≡ self.old.known }
+        ensures limits { self.new.limits ≡ self.old.limits }
+        ensures taken { self.new.taken ≡ self.old.taken }
     {
         end_inside(&mut self.inside, poller, sink, room)
     }
@@ -201,15 +248,24 @@ fn new_inside<'a, M: Machine + Drop, S: NonBlocking + Drop>(
     ensures limits { IfOk result (λ made. made.limits ≡ limits) }
     ensures whole { IfOk result (λ made. AreClientsSound M.agrees S.did (map (λ name. name.now) made.known.now)
         made.all made.held.items made.is_broken) }
+    ensures taken { IfOk result (λ made. made.taken ≡ 0) }
+    ensures len { IfOk result (λ made. length made.numbers.items ≡ len) }
+    ensures numbers { IfOk result (λ made. AreUnnumbered made.numbers.items) }
+    ensures plays { IfOk result (λ made. PlayNothing made.all.places) }
+    ensures counted { IfOk result (λ made. AreNumbersSound made.all.places made.taken made.numbers.items
+        made.is_broken) }
 {
     let all = Loop::new(alloc, len)?;
     let held = none_held(alloc, len)?;
+    let numbers = none_numbered(alloc, len)?;
     Ok(Inside {
         alloc,
         known,
         limits,
         all,
         held,
+        taken: 0,
+        numbers,
         there: 0,
         busy: 0,
         is_broken: false,
@@ -227,6 +283,18 @@ fn none_held<S: Drop>(alloc: Global, len: usize) -> Result<Vec<Option<Held<S>>>,
     Ok(held)
 }
 
+/// So many places beside which no number stands.
+fn none_numbered(alloc: Global, len: usize) -> Result<Vec<Option<u64>>, NoMemory>
+    ensures len { IfOk result (λ made. length made.items ≡ len) }
+    ensures none { IfOk result (λ made. AreUnnumbered made.items) }
+{
+    let mut numbers = Vec::new(alloc);
+    while numbers.len() < len {
+        numbers.push(None)?;
+    }
+    Ok(numbers)
+}
+
 /// Serves all clients, and takes those that come, until something has happened.
 fn next_inside<M: Machine + Drop, L: Listener, P: Poller, K: LineSink>(
     inside: &mut Inside<'_, M, L::Client>,
@@ -239,9 +307,11 @@ fn next_inside<M: Machine + Drop, L: Listener, P: Poller, K: LineSink>(
     requires room { 0 < length room.old }
     requires whole { AreClientsSound M.agrees L.Client.did (map (λ name. name.now) inside.old.known.now)
         inside.old.all inside.old.held.items inside.old.is_broken }
+    requires counted { AreNumbersSound inside.old.all.places inside.old.taken inside.old.numbers.items
+        inside.old.is_broken }
     ensures happened { IfOk result (λ event. HasBecome L.Client.did L.did (P.time poller.new) until listener.new
         (clients_value (map (λ name. name.now) inside.new.known.now) inside.new.limits inside.new.all
-        inside.new.held.items) event) }
+        inside.new.held.items inside.new.taken inside.new.numbers.items) event) }
     ensures stands { IfOk result (λ event. StandsWhere inside.new.all.places event) }
     ensures holds { IfOk result (λ event. HoldsBehind L.Client.did (map (λ name. name.now) inside.new.known.now)
         (held_streams inside.new.held.items) event) }
@@ -249,10 +319,16 @@ fn next_inside<M: Machine + Drop, L: Listener, P: Poller, K: LineSink>(
     ensures held { OnOk result (StayHeld (held_streams inside.old.held.items) (held_streams inside.new.held.items)) }
     ensures plays { IfOk result (λ event. PlaysOn K.heard M.agrees L.Client.did M.gives inside.old.all.places
         inside.new.all.places sink.old sink.new (Some event)) }
+    ensures played { IfOk result (TellsPlayed L.Client.did M.gives (held_streams inside.new.held.items)) }
+    ensures only { IfOk result (λ event. PlayedOnly inside.old.all.places inside.new.all.places (Some event)) }
+    ensures takes { IfOk result (λ event. TakesClients L.did listener.old listener.new inside.old.taken
+        inside.old.numbers.items inside.new.taken inside.new.numbers.items (Some event)) }
     ensures known { OnOk result (inside.new.known ≡ inside.old.known) }
     ensures limits { OnOk result (inside.new.limits ≡ inside.old.limits) }
     ensures whole { AreClientsSound M.agrees L.Client.did (map (λ name. name.now) inside.new.known.now)
         inside.new.all inside.new.held.items inside.new.is_broken }
+    ensures counted { AreNumbersSound inside.new.all.places inside.new.taken inside.new.numbers.items
+        inside.new.is_broken }
 {
     let mut left = u64::MAX;
     while left > 0 && !inside.is_broken {
@@ -278,9 +354,11 @@ fn wait_inside<M: Machine + Drop, L: Listener, P: Poller, K: LineSink>(
     requires runs { inside.old.is_broken ≡ false }
     requires whole { AreClientsSound M.agrees L.Client.did (map (λ name. name.now) inside.old.known.now)
         inside.old.all inside.old.held.items inside.old.is_broken }
+    requires counted { AreNumbersSound inside.old.all.places inside.old.taken inside.old.numbers.items
+        inside.old.is_broken }
     ensures happened { IfOk result (λ came. IfSome came (λ event. HasBecome L.Client.did L.did (P.time poller.new) until
         listener.new (clients_value (map (λ name. name.now) inside.new.known.now) inside.new.limits inside.new.all
-        inside.new.held.items) event)) }
+        inside.new.held.items inside.new.taken inside.new.numbers.items) event)) }
     ensures stands { IfOk result (λ came. IfSome came (λ event. StandsWhere inside.new.all.places event)) }
     ensures holds { IfOk result (λ came. IfSome came (λ event. HoldsBehind L.Client.did
         (map (λ name. name.now) inside.new.known.now) (held_streams inside.new.held.items) event)) }
@@ -289,10 +367,17 @@ fn wait_inside<M: Machine + Drop, L: Listener, P: Poller, K: LineSink>(
     ensures held { OnOk result (StayHeld (held_streams inside.old.held.items) (held_streams inside.new.held.items)) }
     ensures plays { IfOk result (λ came. PlaysOn K.heard M.agrees L.Client.did M.gives inside.old.all.places
         inside.new.all.places sink.old sink.new came) }
+    ensures played { IfOk result (λ came. IfSome came (TellsPlayed L.Client.did M.gives
+        (held_streams inside.new.held.items))) }
+    ensures only { IfOk result (PlayedOnly inside.old.all.places inside.new.all.places) }
+    ensures takes { IfOk result (TakesClients L.did listener.old listener.new inside.old.taken
+        inside.old.numbers.items inside.new.taken inside.new.numbers.items) }
     ensures known { OnOk result (inside.new.known ≡ inside.old.known) }
     ensures limits { OnOk result (inside.new.limits ≡ inside.old.limits) }
     ensures whole { AreClientsSound M.agrees L.Client.did (map (λ name. name.now) inside.new.known.now)
         inside.new.all inside.new.held.items inside.new.is_broken }
+    ensures counted { AreNumbersSound inside.new.all.places inside.new.taken inside.new.numbers.items
+        inside.new.is_broken }
 {
     let arrival = run_all(inside, listener, poller, sink, until, room)?;
     let now = poller.now();
@@ -302,11 +387,15 @@ fn wait_inside<M: Machine + Drop, L: Listener, P: Poller, K: LineSink>(
             Ok(came)
         }
         Arrival::Client(at, stream) => {
-            receive(inside, at, stream, now);
+            receive(inside, at, stream, now)?;
             Ok(None)
         }
         Arrival::Lost(_) => Ok(None),
-        Arrival::NotAccepted(why) => Ok(deaf_by(inside.there, why)),
+        Arrival::NotAccepted(why) => Ok(Some(deaf_by(
+            inside.there,
+            inside.numbers.as_slice(),
+            why,
+        ))),
         Arrival::TooLate => Ok(Some(Event::TooLate)),
     }
 }
@@ -321,18 +410,27 @@ fn run_all<M: Machine + Drop, L: Listener, P: Poller, K: LineSink>(
     room: &mut [u8],
 ) -> Result<Arrival<L::Client, L::Miss>, K::Fault>
     requires room { 0 < length room.old }
+    requires runs { inside.old.is_broken ≡ false }
     requires whole { AreClientsSound M.agrees L.Client.did (map (λ name. name.now) inside.old.known.now)
         inside.old.all inside.old.held.items inside.old.is_broken }
+    requires counted { AreNumbersSound inside.old.all.places inside.old.taken inside.old.numbers.items
+        inside.old.is_broken }
     ensures arrived { IfOk result (λ arrival. HasCome (wants_talk M.wants) L.Client.did L.did (P.time poller.new) until
         listener.new inside.new.all arrival) }
     ensures plays { OnOk result (HasGoneOnTo K.heard M.agrees L.Client.did inside.old.all.places inside.new.all.places
         sink.old sink.new) }
+    ensures only { OnOk result (PlayNoMore inside.old.all.places inside.new.all.places) }
+    ensures asked { IfOk result (λ arrival. HasHeardFor L.did listener.old listener.new inside.new.all arrival) }
+    ensures taken { inside.new.taken ≡ inside.old.taken }
+    ensures numbers { inside.new.numbers ≡ inside.old.numbers }
     ensures known { inside.new.known ≡ inside.old.known }
     ensures held { inside.new.held.items ≡ inside.old.held.items }
     ensures limits { inside.new.limits ≡ inside.old.limits }
     ensures runs { OnOk result (inside.new.is_broken ≡ inside.old.is_broken) }
     ensures whole { AreClientsSound M.agrees L.Client.did (map (λ name. name.now) inside.new.known.now)
         inside.new.all inside.new.held.items inside.new.is_broken }
+    ensures counted { AreNumbersSound inside.new.all.places inside.new.taken inside.new.numbers.items
+        inside.new.is_broken }
 {
     match inside
         .all
@@ -346,36 +444,86 @@ fn run_all<M: Machine + Drop, L: Listener, P: Poller, K: LineSink>(
     }
 }
 
-/// What has happened where no client can be taken, for this reason: something, if none of so many is there.
-fn deaf_by<E, W: Copy>(there: usize, why: W) -> Option<Event<E, W>>
-    ensures { IfSome result (λ event. event ≡ Deaf why) }
+/// What has happened where no client can be taken, for this reason: nobody is there, where so many are and these are
+/// the numbers, or some may be.
+fn deaf_by<E, W: Copy>(there: usize, numbers: &[Option<u64>], why: W) -> Event<E, W>
+    ensures { IsNoMore numbers.now why result }
 {
-    if there == 0 {
-        Some(Event::Deaf(why))
+    if there == 0 && are_unnumbered(numbers) {
+        Event::Deaf(why)
+    } else {
+        Event::Full(why)
+    }
+}
+
+/// Whether none of these is a number.
+fn are_unnumbered(numbers: &[Option<u64>]) -> bool
+    ensures { result ≡ true → AreUnnumbered numbers.now }
+{
+    let mut next = 0;
+    while next < numbers.len() {
+        if number_of(numbers, next).is_some() {
+            return false;
+        }
+        next += 1;
+    }
+    true
+}
+
+/// The number beside this place, if there is one.
+fn number_of(numbers: &[Option<u64>], at: usize) -> Option<u64>
+    ensures { result ≡ client_number numbers.now at }
+{
+    match numbers.get(at) {
+        Some(number) => *number,
+        None => None,
+    }
+}
+
+/// The number beside this place, if there is one, which stands there no longer.
+fn number_taken(numbers: &mut Vec<Option<u64>>, at: usize) -> Option<u64>
+    ensures taken { result ≡ client_number numbers.old.items at }
+    ensures numbers { numbers.new.items ≡ slice_set numbers.old.items at None }
+{
+    if at < numbers.len() {
+        mem::replace(&mut numbers[at], None)
     } else {
         None
     }
 }
 
-/// A client has come, for a place that is empty: its request is to be read.
+/// A client has come, for a place that is empty: it gets the next number, and its request is to be read. There is none
+/// behind the last one that can be counted.
 fn receive<M: Machine + Drop, S: NonBlocking + Drop>(
     inside: &mut Inside<'_, M, S>,
     at: usize,
     stream: S,
     now: u64,
-)
+) -> Result<(), WaitFailed>
     requires empty { slice_get inside.old.all.places at ≡ Some Empty }
     requires fresh { S.did stream stream [] }
+    requires runs { inside.old.is_broken ≡ false }
     requires whole { AreClientsSound M.agrees S.did (map (λ name. name.now) inside.old.known.now)
         inside.old.all inside.old.held.items inside.old.is_broken }
+    requires counted { AreNumbersSound inside.old.all.places inside.old.taken inside.old.numbers.items
+        inside.old.is_broken }
     ensures others { KeepsPlays M.agrees S.did inside.old.all.places inside.new.all.places }
+    ensures only { PlayNoMore inside.old.all.places inside.new.all.places }
+    ensures taken { OnOk result (inside.new.taken ≡ inside.old.taken + 1) }
+    ensures numbers { OnOk result (inside.new.numbers.items
+        ≡ slice_set inside.old.numbers.items at (Some (inside.old.taken + 1))) }
     ensures known { inside.new.known ≡ inside.old.known }
     ensures held { inside.new.held.items ≡ inside.old.held.items }
     ensures limits { inside.new.limits ≡ inside.old.limits }
     ensures runs { inside.new.is_broken ≡ inside.old.is_broken }
     ensures whole { AreClientsSound M.agrees S.did (map (λ name. name.now) inside.new.known.now)
         inside.new.all inside.new.held.items inside.new.is_broken }
+    ensures counted { AreNumbersSound inside.new.all.places inside.new.taken inside.new.numbers.items
+        inside.new.is_broken }
 {
+    let Some(number) = inside.taken.checked_add(1) else {
+        return Err(WaitFailed);
+    };
     let bounds = inside.limits.from(now);
     let slot = Slot {
         machine: Talk::Admits(AdmitMachine::new(inside.alloc, inside.known)),
@@ -384,6 +532,9 @@ fn receive<M: Machine + Drop, S: NonBlocking + Drop>(
     };
     inside.all.put(at, slot);
     inside.there = inside.there.saturating_add(1);
+    inside.taken = number;
+    inside.numbers[at] = Some(number);
+    Ok(())
 }
 
 /// What has come of what went on in this place, which has ended: where the client isn't left, it waits there.
@@ -396,6 +547,8 @@ fn ended_at<M: Machine + Drop, S: NonBlocking + Drop, W>(
     requires runs { inside.old.is_broken ≡ false }
     requires whole { AreClientsSound M.agrees S.did (map (λ name. name.now) inside.old.known.now)
         inside.old.all inside.old.held.items inside.old.is_broken }
+    requires counted { AreNumbersSound inside.old.all.places inside.old.taken inside.old.numbers.items
+        inside.old.is_broken }
     ensures came { IfOk result (λ came. IfSome came (λ event.
         IsOfPlace S.did at (map (λ name. name.now) inside.old.known.now) event)) }
     ensures stands { IfOk result (λ came. IfSome came (λ event. StandsWhere inside.new.all.places event)) }
@@ -406,11 +559,19 @@ fn ended_at<M: Machine + Drop, S: NonBlocking + Drop, W>(
     ensures held { OnOk result (StayHeld (held_streams inside.old.held.items) (held_streams inside.new.held.items)) }
     ensures plays { IfOk result (λ came. EndsAtOnce M.agrees S.did M.gives inside.old.all.places inside.new.all.places
         came) }
+    ensures played { IfOk result (λ came. IfSome came (TellsPlayed S.did M.gives
+        (held_streams inside.new.held.items))) }
+    ensures only { IfOk result (PlayedOnly inside.old.all.places inside.new.all.places) }
+    ensures taken { inside.new.taken ≡ inside.old.taken }
+    ensures of { IfOk result (IsOfNumber inside.old.numbers.items) }
+    ensures behind { IfOk result (λ came. inside.new.numbers.items ≡ numbers_behind came inside.old.numbers.items) }
     ensures known { inside.new.known ≡ inside.old.known }
     ensures limits { inside.new.limits ≡ inside.old.limits }
     ensures runs { inside.new.is_broken ≡ inside.old.is_broken }
     ensures whole { AreClientsSound M.agrees S.did (map (λ name. name.now) inside.new.known.now)
         inside.new.all inside.new.held.items inside.new.is_broken }
+    ensures counted { AreNumbersSound inside.new.all.places inside.new.taken inside.new.numbers.items
+        inside.new.is_broken }
 {
     match inside.all.take(at) {
         Place::Open(slot) => {
@@ -423,7 +584,8 @@ fn ended_at<M: Machine + Drop, S: NonBlocking + Drop, W>(
         }
         Place::Broken => {
             inside.there = inside.there.saturating_sub(1);
-            Ok(Some(Event::Gone(at)))
+            let number = number_taken(&mut inside.numbers, at);
+            Ok(Some(Event::Gone(at, number)))
         }
         Place::Empty => Ok(None),
     }
@@ -439,8 +601,11 @@ fn end_slot<M: Machine + Drop, S: NonBlocking + Drop, W>(
     requires over { (wants_talk M.wants slot.machine).done ≡ true }
     requires empty { slice_get inside.old.all.places at ≡ Some Empty }
     requires talk { IsTalkOf M.agrees S.did (map (λ name. name.now) inside.old.known.now) slot }
+    requires runs { inside.old.is_broken ≡ false }
     requires whole { AreClientsSound M.agrees S.did (map (λ name. name.now) inside.old.known.now)
         inside.old.all inside.old.held.items inside.old.is_broken }
+    requires counted { AreNumbersSound (slice_set inside.old.all.places at (Open slot)) inside.old.taken
+        inside.old.numbers.items inside.old.is_broken }
     ensures came { IfOk result (λ came. IfSome came (λ event.
         IsOfPlace S.did at (map (λ name. name.now) inside.old.known.now) event)) }
     ensures stands { IfOk result (λ came. IfSome came (λ event. StandsWhere inside.new.all.places event)) }
@@ -451,11 +616,21 @@ fn end_slot<M: Machine + Drop, S: NonBlocking + Drop, W>(
     ensures held { OnOk result (StayHeld (held_streams inside.old.held.items) (held_streams inside.new.held.items)) }
     ensures plays { IfOk result (λ came. EndsSlot M.agrees S.did M.gives at slot.entry came) }
     ensures others { KeepsPlays M.agrees S.did inside.old.all.places inside.new.all.places }
+    ensures played { IfOk result (λ came. IfSome came (TellsPlayed S.did M.gives
+        (held_streams inside.new.held.items))) }
+    ensures of { IfOk result (IsOfNumber inside.old.numbers.items) }
+    ensures behind { IfOk result (λ came. inside.new.numbers.items ≡ numbers_behind came inside.old.numbers.items) }
+    ensures only { PlayNoMore inside.old.all.places inside.new.all.places }
+    ensures player { IfOk result (λ came. IfSome came (IsOfPlayer slot.entry.machine)) }
+    ensures taken { inside.new.taken ≡ inside.old.taken }
+    ensures numbers { inside.new.numbers ≡ inside.old.numbers }
     ensures known { inside.new.known ≡ inside.old.known }
     ensures limits { inside.new.limits ≡ inside.old.limits }
     ensures runs { inside.new.is_broken ≡ inside.old.is_broken }
     ensures whole { AreClientsSound M.agrees S.did (map (λ name. name.now) inside.new.known.now)
         inside.new.all inside.new.held.items inside.new.is_broken }
+    ensures counted { AreNumbersSound inside.new.all.places inside.new.taken inside.new.numbers.items
+        inside.new.is_broken }
 {
     let Slot {
         machine,
@@ -491,17 +666,25 @@ fn hold<M: Machine + Drop, S: NonBlocking + Drop>(
     now: u64,
 )
     requires empty { slice_get inside.old.all.places at ≡ Some Empty }
+    requires number { IsNumberedAt inside.old.numbers.items at }
     requires whole { AreClientsSound M.agrees S.did (map (λ name. name.now) inside.old.known.now)
         inside.old.all inside.old.held.items inside.old.is_broken }
+    requires counted { AreNumbersBut at inside.old.all.places inside.old.taken inside.old.numbers.items
+        inside.old.is_broken }
     ensures awaits { IsAwaitedAt inside.new.all.places at }
     ensures holds { IsHeldAt (held_streams inside.new.held.items) at stream }
     ensures held { StayHeld (held_streams inside.old.held.items) (held_streams inside.new.held.items) }
     ensures others { KeepsPlays M.agrees S.did inside.old.all.places inside.new.all.places }
+    ensures only { PlayNoMore inside.old.all.places inside.new.all.places }
+    ensures taken { inside.new.taken ≡ inside.old.taken }
+    ensures numbers { inside.new.numbers ≡ inside.old.numbers }
     ensures known { inside.new.known ≡ inside.old.known }
     ensures limits { inside.new.limits ≡ inside.old.limits }
     ensures runs { inside.new.is_broken ≡ inside.old.is_broken }
     ensures whole { AreClientsSound M.agrees S.did (map (λ name. name.now) inside.new.known.now)
         inside.new.all inside.new.held.items inside.new.is_broken }
+    ensures counted { AreNumbersSound inside.new.all.places inside.new.taken inside.new.numbers.items
+        inside.new.is_broken }
 {
     inside.all.watch(at, AWAITED);
     inside.held[at] = Some(Held {
@@ -522,17 +705,25 @@ fn play_inside<M: Machine + Drop, S: NonBlocking + Drop>(
     requires goes_on { HasNext (M.wants machine) }
     requires whole { AreClientsSound M.agrees S.did (map (λ name. name.now) inside.old.known.now)
         inside.old.all inside.old.held.items inside.old.is_broken }
+    requires counted { AreNumbersSound inside.old.all.places inside.old.taken inside.old.numbers.items
+        inside.old.is_broken }
     ensures plays { result ≡ true → (stream : S) × IsHeldAt (held_streams inside.old.held.items) at stream
         × IsPlaying M.agrees S.did machine stream [] inside.new.all.places at }
     ensures begins { (stream : S) → IsHeldAt (held_streams inside.old.held.items) at stream → result ≡ true }
+    ensures only { (other : ℕ) → PlaysAt inside.new.all.places other
+        → (other ≡ at) ⊎ PlaysAt inside.old.all.places other }
     ensures limit { result ≡ true → IsLimitAt inside.old.limits.limit inside.new.all.places at }
     ensures held { held_streams inside.new.held.items ≡ slice_set (held_streams inside.old.held.items) at None }
     ensures others { KeepsPlays M.agrees S.did inside.old.all.places inside.new.all.places }
+    ensures taken { inside.new.taken ≡ inside.old.taken }
+    ensures numbers { inside.new.numbers ≡ inside.old.numbers }
     ensures known { inside.new.known ≡ inside.old.known }
     ensures limits { inside.new.limits ≡ inside.old.limits }
     ensures runs { inside.new.is_broken ≡ inside.old.is_broken }
     ensures whole { AreClientsSound M.agrees S.did (map (λ name. name.now) inside.new.known.now)
         inside.new.all inside.new.held.items inside.new.is_broken }
+    ensures counted { AreNumbersSound inside.new.all.places inside.new.taken inside.new.numbers.items
+        inside.new.is_broken }
 {
     let Some(held) = taken_of(&mut inside.held, at) else {
         return false;
@@ -581,19 +772,30 @@ fn leave_inside<M: Machine + Drop, S: NonBlocking + Drop>(
 )
     requires whole { AreClientsSound M.agrees S.did (map (λ name. name.now) inside.old.known.now)
         inside.old.all inside.old.held.items inside.old.is_broken }
+    requires counted { AreNumbersSound inside.old.all.places inside.old.taken inside.old.numbers.items
+        inside.old.is_broken }
     ensures leaves { (stream : S) → IsHeldAt (held_streams inside.old.held.items) at stream →
         IsLeftAt S.did stream inside.new.all.places at }
+    ensures lingers { (stream : S) → IsHeldAt (held_streams inside.old.held.items) at stream →
+        LingersAt now inside.new.all.places at }
     ensures held { held_streams inside.new.held.items ≡ slice_set (held_streams inside.old.held.items) at None }
     ensures others { KeepsPlays M.agrees S.did inside.old.all.places inside.new.all.places }
+    ensures only { PlayNoMore inside.old.all.places inside.new.all.places }
+    ensures taken { inside.new.taken ≡ inside.old.taken }
+    ensures numbers { inside.new.numbers.items
+        ≡ numbers_left (stream_at (held_streams inside.old.held.items) at) at inside.old.numbers.items }
     ensures known { inside.new.known ≡ inside.old.known }
     ensures limits { inside.new.limits ≡ inside.old.limits }
     ensures runs { inside.new.is_broken ≡ inside.old.is_broken }
     ensures whole { AreClientsSound M.agrees S.did (map (λ name. name.now) inside.new.known.now)
         inside.new.all inside.new.held.items inside.new.is_broken }
+    ensures counted { AreNumbersSound inside.new.all.places inside.new.taken inside.new.numbers.items
+        inside.new.is_broken }
 {
     let Some(held) = taken_of(&mut inside.held, at) else {
         return;
     };
+    let _ = number_taken(&mut inside.numbers, at);
     let mut stream = held.stream;
     stream.end_direction();
     let slot = Slot {
@@ -617,8 +819,15 @@ where
     requires room { 0 < length room.old }
     requires whole { AreClientsSound M.agrees S.did (map (λ name. name.now) inside.old.known.now)
         inside.old.all inside.old.held.items inside.old.is_broken }
+    requires counted { AreNumbersSound inside.old.all.places inside.old.taken inside.old.numbers.items
+        inside.old.is_broken }
+    ensures known { inside.new.known ≡ inside.old.known }
+    ensures limits { inside.new.limits ≡ inside.old.limits }
+    ensures taken { inside.new.taken ≡ inside.old.taken }
     ensures whole { AreClientsSound M.agrees S.did (map (λ name. name.now) inside.new.known.now)
         inside.new.all inside.new.held.items inside.new.is_broken }
+    ensures counted { AreNumbersSound inside.new.all.places inside.new.taken inside.new.numbers.items
+        inside.new.is_broken }
 {
     let until = poller.now().saturating_add(ENDING);
     let mut left = u64::MAX;
@@ -646,13 +855,20 @@ fn run_on<M: Machine + Drop, S: NonBlocking + Drop, P: Poller, K: LineSink>(
     room: &mut [u8],
 ) -> Result<Ending, K::Fault>
     requires room { 0 < length room.old }
+    requires runs { inside.old.is_broken ≡ false }
     requires whole { AreClientsSound M.agrees S.did (map (λ name. name.now) inside.old.known.now)
         inside.old.all inside.old.held.items inside.old.is_broken }
+    requires counted { AreNumbersSound inside.old.all.places inside.old.taken inside.old.numbers.items
+        inside.old.is_broken }
     ensures over { IfOk result (λ ending. IsOverAs (wants_talk M.wants) inside.new.all.places ending) }
     ensures known { inside.new.known ≡ inside.old.known }
+    ensures limits { inside.new.limits ≡ inside.old.limits }
+    ensures taken { inside.new.taken ≡ inside.old.taken }
     ensures runs { OnOk result (inside.new.is_broken ≡ inside.old.is_broken) }
     ensures whole { AreClientsSound M.agrees S.did (map (λ name. name.now) inside.new.known.now)
         inside.new.all inside.new.held.items inside.new.is_broken }
+    ensures counted { AreNumbersSound inside.new.all.places inside.new.taken inside.new.numbers.items
+        inside.new.is_broken }
 {
     match inside.all.run(poller, sink, until, room) {
         Ok(ending) => Ok(ending),
@@ -675,8 +891,15 @@ where
     requires runs { inside.old.is_broken ≡ false }
     requires whole { AreClientsSound M.agrees S.did (map (λ name. name.now) inside.old.known.now)
         inside.old.all inside.old.held.items inside.old.is_broken }
+    requires counted { AreNumbersSound inside.old.all.places inside.old.taken inside.old.numbers.items
+        inside.old.is_broken }
+    ensures known { inside.new.known ≡ inside.old.known }
+    ensures limits { inside.new.limits ≡ inside.old.limits }
+    ensures taken { inside.new.taken ≡ inside.old.taken }
     ensures whole { AreClientsSound M.agrees S.did (map (λ name. name.now) inside.new.known.now)
         inside.new.all inside.new.held.items inside.new.is_broken }
+    ensures counted { AreNumbersSound inside.new.all.places inside.new.taken inside.new.numbers.items
+        inside.new.is_broken }
 {
     let came: Option<Event<M::End, ()>> = ended_at(inside, at, now)?;
     match came {
@@ -684,6 +907,6 @@ where
             leave_inside(inside, at, now);
             Ok(())
         }
-        Some(Event::Gone(_) | Event::TooLate | Event::Deaf(_)) | None => Ok(()),
+        Some(Event::Gone(_, _) | Event::TooLate | Event::Full(_) | Event::Deaf(_)) | None => Ok(()),
     }
 }

@@ -9,9 +9,11 @@
 #![tactic(auto)]
 
 mod clients;
+mod counted;
 mod leaving;
 mod talking;
 
 pub use clients::{Clients, Event};
+pub use counted::Counted;
 pub use leaving::Leaver;
 pub use talking::Talk;

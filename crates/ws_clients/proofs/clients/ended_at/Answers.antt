@@ -1,11 +1,15 @@
 -- What stood in the place is taken out of it, and this has come of it.
-use Rattle.std.proofs.Common.{refl}
+use Rattle.std.proofs.Common.{◌∙◌, refl, subst, sym}
+use Rattle.std.proofs.lemmas.Option.{slice_get_within}
+use Rattle.ws_clients.specs.Numbers.{AreNumbersSound}
 use Rattle.ws_loops.specs.declared.places.Place.TheVariants.{Broken, Empty, Open, Pending}
 use Rattle.ws_clients.specs.Clients.{held_streams}
 use Rattle.ws_clients.specs.Talks.{wants_talk}
 use Rattle.ws_clients.specs.declared.clients.Event.TheVariants.{Gone}
 use Rattle.ws_clients.proofs.ClientLemmas.{emptied_at, ends_place, keeps_same, keeps_set, over_within, slot_over}
 use Rattle.ws_clients.proofs.ClientLemmas.{no_stream, none_waits, sound_empty, sound_kept_anew, stay_same}
+use Rattle.ws_clients.proofs.KindLemmas.{but_moved, none_waits_there, numbers_but, numbers_lost, numbers_put, of_place}
+use Rattle.ws_clients.proofs.KindLemmas.{only_set, only_then, played_only, stands_again}
 use Rattle.ws_clients.proofs.clients.ended_at.Goals as goal
 
 pub take-requires : goal.take-requires
@@ -72,7 +76,7 @@ returns-in-Broken-clause-plays g c = ends_place g.M.Machine.agrees g.S.NonBlocki
     c.args.inside.now.all.places c.take.new.self.places c.take.new.self.places c.args.at Broken _
     c.in-Broken.ensures.taken c.in-Broken.ensures.empty
     (keeps_same g.M.Machine.agrees g.S.NonBlocking.did c.take.new.self.places c.take.new.self.places refl)
-    (λ start stream happened plays. (Gone c.args.at, refl, refl))
+    (λ start stream happened plays. (Gone c.args.at c.number_taken-number.result, refl, refl))
 
 pub returns-in-Broken-clause-whole : goal.returns-in-Broken-clause-whole
 returns-in-Broken-clause-whole g c = sound_empty g.M.Machine.agrees g.S.NonBlocking.did _ c.args.inside.now.all
@@ -104,3 +108,66 @@ pub returns-in-Broken-clause-fresh : goal.returns-in-Broken-clause-fresh
 returns-in-Broken-clause-fresh g c = no_stream c.args.inside.now.held.items c.args.at
     (none_waits g.M.Machine.agrees g.S.NonBlocking.did _ c.args.inside.now.all c.args.inside.now.held.items
     c.args.inside.now.is_broken c.args.at Broken c.in-Broken.ensures.taken tt c.requires.whole)
+
+pub end_slot-requires-clause-runs : goal.end_slot-requires-clause-runs
+end_slot-requires-clause-runs g c = c.requires.runs
+
+pub end_slot-requires-clause-counted : goal.end_slot-requires-clause-counted
+end_slot-requires-clause-counted g c = subst (λ l. AreNumbersSound l c.args.inside.now.taken
+    c.args.inside.now.numbers.items c.args.inside.now.is_broken)
+    (sym (stands_again c.args.inside.now.all.places c.take.new.self.places c.args.at (Open c.in-Open.slot) Empty
+    c.in-Open.ensures.taken c.in-Open.ensures.empty)) c.requires.counted
+
+pub returns-in_ok-came-in-Open-clause-only : goal.returns-in_ok-came-in-Open-clause-only
+returns-in_ok-came-in-Open-clause-only g c = played_only c.args.inside.now.all.places
+    c.end_slot.new.inside.all.places c.args.at c.in-Open.slot c.in_ok-came-in-Open.came c.in-Open.ensures.taken
+    (only_then c.args.inside.now.all.places c.take.new.self.places c.end_slot.new.inside.all.places
+    (only_set c.args.inside.now.all.places c.take.new.self.places c.args.at Empty c.in-Open.ensures.empty (λ plays. plays))
+    c.end_slot.ensures.only) c.in_ok-came-in-Open.ensures.player
+    (of_place g.S.NonBlocking.did c.args.at _ c.in_ok-came-in-Open.came c.in_ok-came-in-Open.ensures.came)
+
+pub returns-in-Pending-clause-only : goal.returns-in-Pending-clause-only
+returns-in-Pending-clause-only g c = only_then c.args.inside.now.all.places c.take.new.self.places
+    c.watch.new.self.places
+    (only_set c.args.inside.now.all.places c.take.new.self.places c.args.at Empty c.in-Pending.ensures.empty
+    (λ plays. plays))
+    (only_set c.take.new.self.places c.watch.new.self.places c.args.at _ c.watch.ensures.watched (λ plays. plays))
+
+pub returns-in-Pending-clause-counted : goal.returns-in-Pending-clause-counted
+returns-in-Pending-clause-counted g c = numbers_put c.args.at c.take.new.self.places c.watch.new.self.places _
+    c.args.inside.now.taken c.args.inside.now.numbers.items c.args.inside.now.is_broken c.watch.ensures.watched
+    (λ runs. c.requires.counted.each runs c.args.at (Pending c.in-Pending.field-0) c.in-Pending.ensures.taken)
+    (but_moved c.args.at c.args.inside.now.all.places c.take.new.self.places Empty c.args.inside.now.taken
+    c.args.inside.now.numbers.items c.args.inside.now.is_broken c.in-Pending.ensures.empty
+    (numbers_but c.args.at c.args.inside.now.all.places c.args.inside.now.taken c.args.inside.now.numbers.items
+    c.args.inside.now.is_broken c.requires.counted))
+
+pub returns-in-Broken-clause-only : goal.returns-in-Broken-clause-only
+returns-in-Broken-clause-only g c = (
+  only_set c.args.inside.now.all.places c.take.new.self.places c.args.at Empty c.in-Broken.ensures.empty
+      (λ plays. plays),
+  tt,
+)
+
+pub returns-in-Broken-clause-counted : goal.returns-in-Broken-clause-counted
+returns-in-Broken-clause-counted g c = numbers_lost c.args.at c.args.inside.now.all.places c.take.new.self.places Empty
+    c.args.inside.now.taken c.args.inside.now.numbers.items c.number_taken-number.new.numbers.items
+    c.args.inside.now.is_broken
+    (slice_get_within c.args.inside.now.all.places c.args.at Broken c.in-Broken.ensures.taken)
+    c.in-Broken.ensures.empty c.number_taken-number.ensures.numbers refl
+    (numbers_but c.args.at c.args.inside.now.all.places c.args.inside.now.taken c.args.inside.now.numbers.items
+    c.args.inside.now.is_broken c.requires.counted)
+
+pub returns-in-Empty-clause-only : goal.returns-in-Empty-clause-only
+returns-in-Empty-clause-only g c = only_set c.args.inside.now.all.places c.take.new.self.places c.args.at Empty
+    c.in-Empty.ensures.empty (λ plays. plays)
+
+pub returns-in-Empty-clause-counted : goal.returns-in-Empty-clause-counted
+returns-in-Empty-clause-counted g c = numbers_put c.args.at c.args.inside.now.all.places c.take.new.self.places Empty
+    c.args.inside.now.taken c.args.inside.now.numbers.items c.args.inside.now.is_broken c.in-Empty.ensures.empty
+    (λ runs. c.requires.counted.each runs c.args.at Empty c.in-Empty.ensures.taken)
+    (numbers_but c.args.at c.args.inside.now.all.places c.args.inside.now.taken c.args.inside.now.numbers.items
+    c.args.inside.now.is_broken c.requires.counted)
+
+pub returns-in_ok-came-in-Open-clause-behind : goal.returns-in_ok-came-in-Open-clause-behind
+returns-in_ok-came-in-Open-clause-behind g c = c.in_ok-came-in-Open.ensures.behind

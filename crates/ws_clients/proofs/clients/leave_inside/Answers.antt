@@ -1,10 +1,13 @@
 -- Who is left is read to the end.
-use Rattle.std.proofs.Common.{[], refl}
+use Rattle.std.proofs.Common.{◌≡◌, ◌∙◌, ℕ, [], Some, ap, refl}
 use Rattle.std.proofs.lemmas.Option.{slice_get_within}
+use Rattle.ws_loops.specs.Paces.{passes_at}
+use Rattle.ws_loops.specs.declared.pace.Pace.{Pace}
 use Rattle.ws_loops.specs.declared.places.Place.TheVariants.{Pending}
 use Rattle.ws_clients.specs.declared.talking.Talk.TheVariants.{Leaves}
-use Rattle.ws_clients.proofs.ClientLemmas.{held_same, keeps_set, leaver_goes_on, left_now, no_stream, sound_begin}
-use Rattle.ws_clients.proofs.ClientLemmas.{streams_none, streams_taken, talk_begins}
+use Rattle.ws_clients.proofs.ClientLemmas.{held_same, keeps_set, leaver_goes_on, left_now, no_stream, slot_now}
+use Rattle.ws_clients.proofs.ClientLemmas.{sound_begin, streams_none, streams_taken, talk_begins}
+use Rattle.ws_clients.proofs.KindLemmas.{left_held, left_none, numbers_but, numbers_lost, only_same, only_set}
 use Rattle.ws_clients.proofs.clients.leave_inside.Goals as goal
 
 pub open-requires-clause-able : goal.open-requires-clause-able
@@ -22,6 +25,19 @@ returns-clause-leaves g c = λ stream held.
     (slice_get_within c.args.inside.now.all.places c.args.at (Pending watch) is) c.open.ensures.put refl
     (held_same c.args.inside.now.held.items c.args.at c.in-Some.held stream c.in-Some.ensures.taken.0 held)
     c.end_direction.ensures
+
+pub returns-clause-lingers : goal.returns-clause-lingers
+returns-clause-lingers g c = λ stream held.
+    let (watch, is) = c.requires.whole.waits c.args.at c.in-Some.held c.in-Some.ensures.taken.0 in
+    slot_now (λ slot. slot.pace.deadline ≡ passes_at (Some 1800) c.args.now) c.args.inside.now.all.places
+    c.open.new.self.places c.args.at
+    (record { machine = Leaves c.new.result; stream = c.end_direction.new.self; pace = c.begun.result })
+    (slice_get_within c.args.inside.now.all.places c.args.at (Pending watch) is) c.open.ensures.put
+    (ap (λ (p : Pace). p.deadline) c.begun.ensures ∙ ap (λ (n : ℕ). Some n) c.saturating_add.ensures)
+
+pub returns-in_default-clause-lingers : goal.returns-in_default-clause-lingers
+returns-in_default-clause-lingers g c = λ stream is.
+    absurd (no_stream c.args.inside.now.held.items c.args.at c.in_default.ensures.none stream is)
 
 pub returns-clause-held : goal.returns-clause-held
 returns-clause-held g c = streams_taken c.args.inside.now.held.items c.taken_of.new.held.items c.args.at
@@ -49,3 +65,29 @@ returns-clause-whole g c = sound_begin g.M.Machine.agrees g.S.NonBlocking.did _ 
     (talk_begins g.M.Machine.agrees g.S.NonBlocking.did _
     (record { machine = Leaves c.new.result; stream = c.end_direction.new.self; pace = c.begun.result }) tt
     c.new.ensures.told) c.requires.whole
+
+pub returns-clause-only : goal.returns-clause-only
+returns-clause-only g c = only_set c.args.inside.now.all.places c.open.new.self.places c.args.at _ c.open.ensures.put
+    (λ plays. plays)
+
+pub returns-in_default-clause-only : goal.returns-in_default-clause-only
+returns-in_default-clause-only g c = only_same c.args.inside.now.all.places c.args.inside.now.all.places refl
+
+pub returns-clause-numbers : goal.returns-clause-numbers
+returns-clause-numbers g c = left_held c.args.inside.now.held.items c.args.at c.in-Some.held
+    c.args.inside.now.numbers.items c.number_taken.new.numbers.items c.in-Some.ensures.taken.0
+    c.number_taken.ensures.numbers
+
+pub returns-in_default-clause-numbers : goal.returns-in_default-clause-numbers
+returns-in_default-clause-numbers g c = left_none c.args.inside.now.held.items c.args.at
+    c.args.inside.now.numbers.items c.in_default.ensures.none
+
+pub returns-clause-counted : goal.returns-clause-counted
+returns-clause-counted g c =
+    let (watch, is) = c.requires.whole.waits c.args.at c.in-Some.held c.in-Some.ensures.taken.0 in
+    numbers_lost c.args.at c.args.inside.now.all.places c.open.new.self.places _ c.args.inside.now.taken
+    c.args.inside.now.numbers.items c.number_taken.new.numbers.items c.args.inside.now.is_broken
+    (slice_get_within c.args.inside.now.all.places c.args.at (Pending watch) is) c.open.ensures.put
+    c.number_taken.ensures.numbers refl
+    (numbers_but c.args.at c.args.inside.now.all.places c.args.inside.now.taken c.args.inside.now.numbers.items
+    c.args.inside.now.is_broken c.requires.counted)

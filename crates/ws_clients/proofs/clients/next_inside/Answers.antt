@@ -1,8 +1,11 @@
 -- All that is played goes on until something has happened.
 use Rattle.std.proofs.Common.{◌∙◌, Some, refl, rules, subst}
-use Rattle.ws_clients.specs.Clients.{PlaysOn, held_streams}
+use Rattle.ws_clients.specs.Clients.{PlayedOnly, PlaysOn, held_streams}
+use Rattle.ws_clients.specs.Numbers.{TakesClients}
 use Rattle.ws_clients.proofs.ClientLemmas.{goes_none, goes_on, goes_still, goes_then, newly_told, stay_same}
 use Rattle.ws_clients.proofs.ClientLemmas.{stay_then}
+use Rattle.ws_clients.proofs.KindLemmas.{only_none, only_same, only_so, only_then}
+use Rattle.ws_clients.proofs.NumberLemmas.{taken_none, taken_nothing, taken_then, takes_then}
 use Rattle.ws_clients.proofs.clients.next_inside.Goals as goal
 
 pub loop-left-init : goal.loop-left-init
@@ -14,6 +17,9 @@ loop-left-init g c = record {
   limits = refl;
   plays = goes_still g.M.Machine.agrees g.L.Client.NonBlocking.did g.K.LineSink.heard c.args.inside.now.all.places
       c.args.sink.now;
+  only = only_same c.args.inside.now.all.places c.args.inside.now.all.places refl;
+  takes = taken_nothing g.L.Listener.did c.args.listener.now c.args.inside.now.taken c.args.inside.now.numbers.items;
+  counted = c.requires.counted;
 }
 
 pub loop-left-preserved : goal.loop-left-preserved
@@ -30,6 +36,18 @@ loop-left-preserved g c = record {
       (goes_none g.M.Machine.agrees g.L.Client.NonBlocking.did g.K.LineSink.heard g.M.Machine.gives
       c.loop-left.inside.all.places c.wait_inside.new.inside.all.places c.loop-left.sink c.wait_inside.new.sink
       c.in_ok-came.came c.in_default.is c.in_ok-came.ensures.plays);
+  only = only_then c.args.inside.now.all.places c.loop-left.inside.all.places c.wait_inside.new.inside.all.places
+      c.loop-left.invariant.only
+      (only_none c.loop-left.inside.all.places c.wait_inside.new.inside.all.places c.in_ok-came.came c.in_default.is
+      c.in_ok-came.ensures.only);
+  takes = taken_then g.L.Listener.did c.args.listener.now c.loop-left.listener c.wait_inside.new.listener
+      c.args.inside.now.taken c.args.inside.now.numbers.items c.loop-left.inside.taken
+      c.loop-left.inside.numbers.items c.wait_inside.new.inside.taken c.wait_inside.new.inside.numbers.items
+      c.loop-left.invariant.takes
+      (taken_none g.L.Listener.did c.loop-left.listener c.wait_inside.new.listener c.loop-left.inside.taken
+      c.loop-left.inside.numbers.items c.wait_inside.new.inside.taken c.wait_inside.new.inside.numbers.items
+      c.in_ok-came.came c.in_default.is c.in_ok-came.ensures.takes);
+  counted = c.wait_inside.ensures.counted;
 }
 
 pub returns-in-Some-clause-held : goal.returns-in-Some-clause-held
@@ -49,3 +67,18 @@ pub returns-in-Some-clause-fresh : goal.returns-in-Some-clause-fresh
 returns-in-Some-clause-fresh g c = newly_told (held_streams c.args.inside.now.held.items)
     (held_streams c.loop-left.inside.held.items) c.in_ok-came.came c.in-Some.event c.in-Some.is
     c.loop-left.invariant.held c.in_ok-came.ensures.fresh
+
+pub returns-in-Some-clause-only : goal.returns-in-Some-clause-only
+returns-in-Some-clause-only g c = only_so c.args.inside.now.all.places c.loop-left.inside.all.places
+    c.wait_inside.new.inside.all.places (Some c.in-Some.event) c.loop-left.invariant.only
+    (subst (λ e. PlayedOnly c.loop-left.inside.all.places c.wait_inside.new.inside.all.places e) c.in-Some.is
+    c.in_ok-came.ensures.only)
+
+pub returns-in-Some-clause-takes : goal.returns-in-Some-clause-takes
+returns-in-Some-clause-takes g c = takes_then g.L.Listener.did c.args.listener.now c.loop-left.listener
+    c.wait_inside.new.listener c.args.inside.now.taken c.args.inside.now.numbers.items c.loop-left.inside.taken
+    c.loop-left.inside.numbers.items c.wait_inside.new.inside.taken c.wait_inside.new.inside.numbers.items
+    (Some c.in-Some.event) c.loop-left.invariant.takes
+    (subst (λ e. TakesClients g.L.Listener.did c.loop-left.listener c.wait_inside.new.listener
+    c.loop-left.inside.taken c.loop-left.inside.numbers.items c.wait_inside.new.inside.taken
+    c.wait_inside.new.inside.numbers.items e) c.in-Some.is c.in_ok-came.ensures.takes)

@@ -1,6 +1,8 @@
 -- So far all that is played has gone on.
 use Rattle.std.proofs.Common.{◌≡◌, ◌<◌, Bor, List, length, map, ℕ}
-use Rattle.ws_clients.specs.Clients.{AreClientsSound, HasGoneOnTo, StayHeld, held_streams}
+use Rattle.ws_clients.specs.Clients.{AreClientsSound, HasGoneOnTo, PlayNoMore, StayHeld, held_streams}
+use Rattle.ws_clients.specs.Numbers.{AreNumbersSound}
+use Rattle.ws_clients.proofs.NumberLemmas.{HasTakenSo}
 use Rattle.ws_clients.proofs.clients.next_inside.Given as goal
 
 abbrev pub invariant-loop-left : goal.invariant-loop-left
@@ -14,6 +16,10 @@ invariant-loop-left g l = record {
   limits : l.inside.limits ≡ l.fn.inside.limits;
   plays : HasGoneOnTo g.K.LineSink.heard g.M.Machine.agrees g.L.Client.NonBlocking.did l.fn.inside.all.places
       l.inside.all.places l.fn.sink l.sink;
+  only : PlayNoMore l.fn.inside.all.places l.inside.all.places;
+  takes : HasTakenSo g.L.Listener.did l.fn.listener l.listener l.fn.inside.taken l.fn.inside.numbers.items
+      l.inside.taken l.inside.numbers.items;
+  counted : AreNumbersSound l.inside.all.places l.inside.taken l.inside.numbers.items l.inside.is_broken;
 }
 
 abbrev pub decreases-loop-left : goal.decreases-loop-left

@@ -1,6 +1,9 @@
 -- All goes on; where the loop is stopped nothing is known of it.
+use Rattle.std.proofs.Common.{subst, sym}
+use Rattle.ws_clients.specs.Numbers.{AreNumbersSound}
 use Rattle.ws_clients.specs.Talks.{wants_talk}
 use Rattle.ws_clients.proofs.ClientLemmas.{over_as, sound_run, sound_stopped}
+use Rattle.ws_clients.proofs.KindLemmas.{numbers_run, numbers_stopped}
 use Rattle.ws_clients.proofs.clients.run_on.Goals as goal
 
 pub returns-in-Ok-clause-over : goal.returns-in-Ok-clause-over
@@ -16,3 +19,19 @@ returns-in-Ok-clause-whole g c = sound_run g.M.Machine.agrees g.S.NonBlocking.di
 pub returns-in-Err-clause-whole : goal.returns-in-Err-clause-whole
 returns-in-Err-clause-whole g c = sound_stopped g.M.Machine.agrees g.S.NonBlocking.did _ c.args.inside.now.all
     c.run.new.self c.args.inside.now.held.items c.args.inside.now.is_broken c.in-Err.ensures.kinds c.requires.whole
+
+pub returns-in-Ok-clause-counted : goal.returns-in-Ok-clause-counted
+returns-in-Ok-clause-counted g c = subst (λ b. AreNumbersSound c.run.new.self.places
+    c.args.inside.now.taken c.args.inside.now.numbers.items b) (sym c.requires.runs)
+    (numbers_run g.M.Machine.agrees g.S.NonBlocking.did (wants_talk g.M.Machine.wants)
+    g.K.LineSink.heard (g.P.Poller.time c.args.poller.now) (g.P.Poller.time c.run.new.poller) _
+    c.args.inside.now.all.places c.run.new.self.places c.args.sink.now c.run.new.sink
+    c.in-Ok.ensures.kinds c.in-Ok.ensures.run (c.requires.whole.talks c.requires.runs) c.args.inside.now.taken
+    c.args.inside.now.numbers.items
+    (subst (λ b. AreNumbersSound c.args.inside.now.all.places c.args.inside.now.taken c.args.inside.now.numbers.items b)
+    c.requires.runs c.requires.counted))
+
+pub returns-in-Err-clause-counted : goal.returns-in-Err-clause-counted
+returns-in-Err-clause-counted g c = numbers_stopped c.args.inside.now.all.places c.run.new.self.places
+    c.args.inside.now.taken c.args.inside.now.numbers.items c.args.inside.now.is_broken c.in-Err.ensures.kinds
+    c.requires.counted
