@@ -10,9 +10,9 @@ use Rattle.httparse.specs.declared.spans.HeaderSpan.{HeaderSpan}
 use Rattle.ws_tap.specs.declared.tapped.Tapped.{Tapped}
 use Rattle.ws_tap.specs.declared.head_room.HeadFound.{HeadFound}
 use Rattle.ws_tap.specs.Texts.{source_at, head_line}
-use Rattle.ws_tap.specs.Standing.{LooksIn, IsFoundWith, IsLookedFor}
-use Rattle.ws_tap.specs.declared.heads.HeadKind.{HeadKind}
-use Rattle.ws_tap.specs.declared.heads.HeadKind.TheVariants.{Request, Response}
+use Rattle.ws_tap.specs.Telling.{LooksIn, IsFoundWith, IsLookedFor}
+use Rattle.ws_wire.specs.declared.role.Role.{Role}
+use Rattle.ws_wire.specs.declared.role.Role.TheVariants.{Client, Server}
 use Rattle.ws_tap.specs.declared.heads.Head.{Head}
 use Rattle.ws_tap.specs.Heads.{HasRequest, HasResponse, HasHead, HasNoHead, head_front}
 
@@ -84,52 +84,52 @@ response_by_front bytes other len status h e = record {
   status_is = h.status_is;
 }
 
-by_front : (kind : HeadKind) (bytes other : List ℕ) (head : Head) → HasHead kind bytes head
-    → take head.len (head_front other) ≡ take head.len (head_front bytes) → HasHead kind other head
-by_front Request bytes other head (h, none) e = (request_by_front bytes other head.len h e, none)
-by_front Response bytes other head (status, h, some) e = (
+by_front : (role : Role) (bytes other : List ℕ) (head : Head) → HasHead role bytes head
+    → take head.len (head_front other) ≡ take head.len (head_front bytes) → HasHead role other head
+by_front Client bytes other head (h, none) e = (request_by_front bytes other head.len h e, none)
+by_front Server bytes other head (status, h, some) e = (
   status,
   response_by_front bytes other head.len status h e,
   some,
 )
 
-len_within : (kind : HeadKind) (bytes : List ℕ) (head : Head) → HasHead kind bytes head
+len_within : (role : Role) (bytes : List ℕ) (head : Head) → HasHead role bytes head
     → head.len ≤ length (head_front bytes)
-len_within Request bytes head (h, none) = within_front (print_request h.head) (head_front bytes) head.len h.whole
+len_within Client bytes head (h, none) = within_front (print_request h.head) (head_front bytes) head.len h.whole
     h.reads.1
-len_within Response bytes head (status, h, some) = within_front (print_response h.head) (head_front bytes) head.len
+len_within Server bytes head (status, h, some) = within_front (print_response h.head) (head_front bytes) head.len
     h.whole h.reads.1
 
-pub head_within : (kind : HeadKind) (bytes : List ℕ) (head : Head) → HasHead kind bytes head → head.len ≤ length bytes
-head_within kind bytes head h = omega (arith, len_within kind bytes head h, part_within bytes)
+pub head_within : (role : Role) (bytes : List ℕ) (head : Head) → HasHead role bytes head → head.len ≤ length bytes
+head_within role bytes head h = omega (arith, len_within role bytes head h, part_within bytes)
 
 -- ---- more bytes, and fewer
 
-pub head_stays : (kind : HeadKind) (bytes more : List ℕ) (head : Head) → HasHead kind bytes head
-    → HasHead kind (bytes ++ more) head
-head_stays kind bytes more head h =
-    let short : head.len ≤ 8192 = omega (arith, len_within kind bytes head h, part_is_short bytes) in
-    by_front kind bytes (bytes ++ more) head h
+pub head_stays : (role : Role) (bytes more : List ℕ) (head : Head) → HasHead role bytes head
+    → HasHead role (bytes ++ more) head
+head_stays role bytes more head h =
+    let short : head.len ≤ 8192 = omega (arith, len_within role bytes head h, part_is_short bytes) in
+    by_front role bytes (bytes ++ more) head h
     (take-take head.len 8192 (bytes ++ more) short ∙ take-append-le head.len bytes more
-    (head_within kind bytes head h) ∙ sym (take-take head.len 8192 bytes short))
+    (head_within role bytes head h) ∙ sym (take-take head.len 8192 bytes short))
 
-pub head_in_front : (kind : HeadKind) (bytes : List ℕ) (n : ℕ) (head : Head) → HasHead kind bytes head → head.len ≤ n
-    → HasHead kind (take n bytes) head
-head_in_front kind bytes n head h le =
-    let short : head.len ≤ 8192 = omega (arith, len_within kind bytes head h, part_is_short bytes) in
-    by_front kind bytes (take n bytes) head h
+pub head_in_front : (role : Role) (bytes : List ℕ) (n : ℕ) (head : Head) → HasHead role bytes head → head.len ≤ n
+    → HasHead role (take n bytes) head
+head_in_front role bytes n head h le =
+    let short : head.len ≤ 8192 = omega (arith, len_within role bytes head h, part_is_short bytes) in
+    by_front role bytes (take n bytes) head h
     (take-take head.len 8192 (take n bytes) short ∙ take-take head.len n bytes le
     ∙ sym (take-take head.len 8192 bytes short))
 
 -- what stands in the part is what stands in all
-of_part : (kind : HeadKind) (bytes : List ℕ) (head : Head) → HasHead kind (head_front bytes) head
-    → HasHead kind bytes head
-of_part kind bytes head h = by_front kind (head_front bytes) bytes head h
+of_part : (role : Role) (bytes : List ℕ) (head : Head) → HasHead role (head_front bytes) head
+    → HasHead role bytes head
+of_part role bytes head h = by_front role (head_front bytes) bytes head h
     (ap (λ (t : List ℕ). take head.len t) (sym (part_of_part bytes)))
 
-in_part : (kind : HeadKind) (bytes : List ℕ) (head : Head) → HasHead kind bytes head
-    → HasHead kind (head_front bytes) head
-in_part kind bytes head h = by_front kind bytes (head_front bytes) head h
+in_part : (role : Role) (bytes : List ℕ) (head : Head) → HasHead role bytes head
+    → HasHead role (head_front bytes) head
+in_part role bytes head h = by_front role bytes (head_front bytes) head h
     (ap (λ (t : List ℕ). take head.len t) (part_of_part bytes))
 
 -- ---- what the parser answers
@@ -146,77 +146,77 @@ few_fields buf headers count fields at n =
 
 -- ---- a piece behind the bytes that are kept
 
-room_grows : (kind : HeadKind) (room new bytes piece : List ℕ) → LooksIn kind room bytes
+room_grows : (role : Role) (room new bytes piece : List ℕ) → LooksIn role room bytes
     → new ≡ head_front (room ++ piece) → new ≡ head_front (bytes ++ piece)
-room_grows kind room new bytes piece l e = e ∙ ap (λ (t : List ℕ). head_front (t ++ piece)) l.0 ∙ part_more bytes piece
+room_grows role room new bytes piece l e = e ∙ ap (λ (t : List ℕ). head_front (t ++ piece)) l.0 ∙ part_more bytes piece
 
-pub not_found : (kind : HeadKind) (tapped : Tapped) (room new slice bytes piece : List ℕ) (result : Option HeadFound)
-    → LooksIn kind room bytes → new ≡ head_front (room ++ piece) → slice ≡ new
-    → HasNoHead kind slice → result ≡ None → IsLookedFor kind tapped new bytes piece result
-not_found kind tapped room new slice bytes piece result l e es lacks none =
-    let grown = room_grows kind room new bytes piece l e in
-    subst (λ (r : Option HeadFound). IsLookedFor kind tapped new bytes piece r) (sym none) (
+pub not_found : (role : Role) (tapped : Tapped) (room new slice bytes piece : List ℕ) (result : Option HeadFound)
+    → LooksIn role room bytes → new ≡ head_front (room ++ piece) → slice ≡ new
+    → HasNoHead role slice → result ≡ None → IsLookedFor role tapped new bytes piece result
+not_found role tapped room new slice bytes piece result l e es lacks none =
+    let grown = room_grows role room new bytes piece l e in
+    subst (λ (r : Option HeadFound). IsLookedFor role tapped new bytes piece r) (sym none) (
       grown,
-      λ head h. lacks head (subst (λ (t : List ℕ). HasHead kind t head) (sym (es ∙ grown))
-          (in_part kind (bytes ++ piece) head h)),
+      λ head h. lacks head (subst (λ (t : List ℕ). HasHead role t head) (sym (es ∙ grown))
+          (in_part role (bytes ++ piece) head h)),
     )
 
 -- the head ends behind the bytes that have none
-pub ends_behind : (kind : HeadKind) (room new slice bytes piece : List ℕ) (head : Head) → LooksIn kind room bytes
+pub ends_behind : (role : Role) (room new slice bytes piece : List ℕ) (head : Head) → LooksIn role room bytes
     → new ≡ head_front (room ++ piece) → slice ≡ new
-    → HasHead kind slice head → (length bytes < head.len) × (length room ≡ length bytes) × (head.len ≤ length slice)
-    × HasHead kind (bytes ++ piece) head
-ends_behind kind room new slice bytes piece head l e es h =
-    let here = subst (λ (t : List ℕ). HasHead kind t head) (es ∙ room_grows kind room new bytes piece l e) h in
-    let all = of_part kind (bytes ++ piece) head here in
+    → HasHead role slice head → (length bytes < head.len) × (length room ≡ length bytes) × (head.len ≤ length slice)
+    × HasHead role (bytes ++ piece) head
+ends_behind role room new slice bytes piece head l e es h =
+    let here = subst (λ (t : List ℕ). HasHead role t head) (es ∙ room_grows role room new bytes piece l e) h in
+    let all = of_part role (bytes ++ piece) head here in
     let small : head.len ≤ 8192 = omega (
       arith,
-      len_within kind (bytes ++ piece) head all,
+      len_within role (bytes ++ piece) head all,
       part_is_short
           (bytes ++ piece),
     ) in
     let early : head.len ≤ length bytes → ⊥ = λ le.
-    l.1 head (subst (λ (t : List ℕ). HasHead kind t head) (take-append_seam bytes piece)
-    (head_in_front kind (bytes ++ piece) (length bytes) head all le)) in
+    l.1 head (subst (λ (t : List ℕ). HasHead role t head) (take-append_seam bytes piece)
+    (head_in_front role (bytes ++ piece) (length bytes) head all le)) in
     let late : length bytes < head.len = omega (arith, early) in (
       late,
       ap (λ (t : List ℕ). length t) (l.0 ∙ take_all 8192 bytes (omega (arith, late, small))),
-      head_within kind
+      head_within role
           slice head h,
       all,
     )
 
-pub found : (kind : HeadKind) (tapped : Tapped) (before : ℕ) (room new slice bytes piece line : List ℕ) (head : Head)
-    → LooksIn kind room bytes → new ≡ head_front (room ++ piece) → slice ≡ new
-    → HasHead kind slice head → before ≡ length room → line ≡ head_line (source_at kind tapped) (take head.len slice)
-    → IsFoundWith kind tapped bytes piece (record { head = head; line = line; used = head.len - before })
-found kind tapped before room new slice bytes piece line head l e es h eb el =
-    let (late, same, within, all) = ends_behind kind room new slice bytes piece head l e es h in
+pub found : (role : Role) (tapped : Tapped) (before : ℕ) (room new slice bytes piece line : List ℕ) (head : Head)
+    → LooksIn role room bytes → new ≡ head_front (room ++ piece) → slice ≡ new
+    → HasHead role slice head → before ≡ length room → line ≡ head_line (source_at role tapped) (take head.len slice)
+    → IsFoundWith role tapped bytes piece (record { head = head; line = line; used = head.len - before })
+found role tapped before room new slice bytes piece line head l e es h eb el =
+    let (late, same, within, all) = ends_behind role room new slice bytes piece head l e es h in
     let used = head.len - before in
     let len : head.len ≡ length bytes + used = omega (arith, late, same, eb) in
     let front : take head.len (bytes ++ piece) ≡ bytes ++ take used piece = ap (λ n. take n (bytes ++ piece)) len
     ∙ take-append-add bytes piece used in
     let small : head.len ≤ 8192 = omega (
       arith,
-      len_within kind (bytes ++ piece) head all,
+      len_within role (bytes ++ piece) head all,
       part_is_short
           (bytes ++ piece),
     ) in
     let in_slice : take head.len slice ≡ bytes ++ take used piece =
-    ap (λ (t : List ℕ). take head.len t) (es ∙ room_grows kind room new bytes piece l e)
+    ap (λ (t : List ℕ). take head.len t) (es ∙ room_grows role room new bytes piece l e)
     ∙ take-take head.len 8192 (bytes ++ piece) small ∙ front in
     let few : used ≤ length piece = omega (
       arith,
       len,
-      head_within kind (bytes ++ piece) head all,
+      head_within role (bytes ++ piece) head all,
       length-append bytes
           piece,
     ) in
     record {
       used = few;
-      has = subst (λ (t : List ℕ). HasHead kind t head) front
-          (head_in_front kind (bytes ++ piece) head.len head all (omega arith));
+      has = subst (λ (t : List ℕ). HasHead role t head) front
+          (head_in_front role (bytes ++ piece) head.len head all (omega arith));
       whole = len ∙ sym (length-append bytes (take used piece)
           ∙ ap (λ n. length bytes + n) (length-take-le used piece few));
-      line = el ∙ ap (λ (t : List ℕ). head_line (source_at kind tapped) t) in_slice;
+      line = el ∙ ap (λ (t : List ℕ). head_line (source_at role tapped) t) in_slice;
     }

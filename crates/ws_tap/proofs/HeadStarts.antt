@@ -4,8 +4,8 @@ use Rattle.std.proofs.lemmas.List.{length-append}
 use Rattle.httparse.specs.Ascii.{space}
 use Rattle.httparse.specs.Grammar.{RequestHead, ResponseHead, print_request, print_response, print_blank}
 use Rattle.httparse.specs.Grammar.{print_version, print_end, print_section, print_reason}
-use Rattle.ws_tap.specs.declared.heads.HeadKind.{HeadKind}
-use Rattle.ws_tap.specs.declared.heads.HeadKind.TheVariants.{Request, Response}
+use Rattle.ws_wire.specs.declared.role.Role.{Role}
+use Rattle.ws_wire.specs.declared.role.Role.TheVariants.{Client, Server}
 use Rattle.ws_tap.specs.Heads.{HasNoHead}
 use Rattle.ws_tap.proofs.HeadLemmas.{head_within}
 
@@ -39,13 +39,13 @@ response_some h =
       length-append a (space ∷ h.digits),
     )
 
-pub nothing_has_no_head : (kind : HeadKind) → HasNoHead kind []
-nothing_has_no_head Request head (h, none) = absurd (omega (
+pub nothing_has_no_head : (role : Role) → HasNoHead role []
+nothing_has_no_head Client head (h, none) = absurd (omega (
   arith,
-  head_within Request [] head (h, none),
+  head_within Client [] head (h, none),
   request_some
       h.head,
   h.whole,
 ))
-nothing_has_no_head Response head (status, h, some) = absurd
-    (omega (arith, head_within Response [] head (status, h, some), response_some h.head, h.whole))
+nothing_has_no_head Server head (status, h, some) = absurd
+    (omega (arith, head_within Server [] head (status, h, some), response_some h.head, h.whole))

@@ -1,642 +1,867 @@
--- What a tap has passed on and told, behind each step.
-use Rattle.std.proofs.Common.{◌≡◌, ℕ, ◌+◌, ◌^◌, ◌<◌, ◌≤◌, Bool, true, false, List, [], ◌∷◌, ◌++◌, length, take, drop}
-use Rattle.std.proofs.Common.{Option, refl, sym, ap, ◌∙◌, append-nil, append_assoc, arith, inl, inr, subst}
-use Rattle.std.proofs.lemmas.List.{length-append, length-drop, length-take-le, take-append-drop}
+-- Where the lines of both ends stand, behind a piece of one of them.
+use Rattle.std.proofs.Common.{◌≡◌, ℕ, ◌<◌, ◌≤◌, Bool, true, false, List, [], ◌∷◌, ◌++◌, length, take}
+use Rattle.std.proofs.Common.{drop}
+use Rattle.std.proofs.Common.{refl, sym, ap, ◌∙◌, append-nil, append_assoc, inl, inr, arith, subst, Ok, Err, Some, None}
+use Rattle.std.proofs.lemmas.List.{length-append, take-append-drop}
 use Rattle.std.proofs.Math.Seq.{take-length}
-use Rattle.std.proofs.KnownBytes.{Appends-nil, Appends-trans, Consumes-nil, Consumes-trans}
-use Rattle.std.specs.Io.KnownBytes.{Appends, Consumes, IsAtEnd}
-use Rattle.ws_tap.specs.Tapping.{WritesLines}
+use Rattle.ws_wire.specs.declared.role.Role.{Role}
+use Rattle.ws_wire.specs.declared.role.Role.TheVariants.{Client, Server}
+use Rattle.ws_frame.specs.Lines.{takes_memory}
+use Rattle.ws_frame.specs.declared.frame_lines.FrameLines.{FrameLines}
+use Rattle.ws_frame.specs.declared.show_fault.ShowFault.{ShowFault}
+use Rattle.ws_frame.specs.declared.show_fault.ShowFault.TheVariants as show_fault
+use Rattle.ws_frame.specs.Devices.{Device, HasWritten}
+use Rattle.ws_frame.specs.FrameStreaming.{MayEndBy, is_of_a_write, keeps_frames}
 use Rattle.ws_tap.specs.declared.tapped.Tapped.{Tapped}
 use Rattle.ws_tap.specs.declared.heads.Head.{Head}
-use Rattle.ws_tap.specs.declared.heads.HeadKind.TheVariants.{Response}
-use Rattle.ws_tap.specs.declared.pipe.PipeStage.{PipeStage}
-use Rattle.ws_tap.specs.declared.pipe.PipeStage.TheVariants as stage
-use Rattle.ws_tap.specs.declared.pipe.Next.TheVariants.{Fill, EndDirection, Nothing}
-use Rattle.ws_tap.specs.declared.client_lines.ClientLines.{ClientLines}
-use Rattle.ws_tap.specs.declared.server_lines.ServerLines.{ServerLines}
-use Rattle.ws_tap.specs.declared.server_lines.ServerStage.{ServerStage}
-use Rattle.ws_tap.specs.declared.server_lines.ServerStage.TheVariants as server
-use Rattle.ws_tap.specs.declared.server_lines.Answer.{Answer}
-use Rattle.ws_tap.specs.declared.server_lines.Answer.TheVariants as answer
-use Rattle.ws_tap.specs.declared.tap.Tap.{Tap}
-use Rattle.ws_tap.specs.PipeValues.{PipeValue}
-use Rattle.ws_tap.specs.Piping.{HasPassed, new_pipe, next_after, with_direction_ended}
+use Rattle.ws_tap.specs.declared.head_room.HeadFound.{HeadFound}
+use Rattle.ws_tap.specs.declared.release.Release.{Release}
+use Rattle.ws_tap.specs.declared.release.Release.TheVariants.{Awaited, Told, Never}
+use Rattle.ws_tap.specs.declared.release.Answer.{Answer}
+use Rattle.ws_tap.specs.declared.release.Answer.TheVariants as reply
+use Rattle.ws_tap.specs.declared.telling.SideStage.{SideStage}
+use Rattle.ws_tap.specs.declared.telling.SideStage.TheVariants as side
+use Rattle.ws_tap.specs.declared.tap_lines.TapLines.{TapLines}
+use Rattle.ws_tap.specs.KeptValues.{KeptValue}
+use Rattle.ws_tap.specs.Told.{other_end}
 use Rattle.ws_tap.specs.Heads.{HasHead, HasNoHead}
-use Rattle.ws_tap.specs.Texts.{Sent, Answered, NotYet, After}
-use Rattle.ws_tap.specs.Standing.{HasToldClient, HasToldServer, UsesPiece, IsAnswerOf, IsResponseLine, ServerStandsAt}
-use Rattle.ws_tap.specs.Standing.{TellsResponse, after_answer}
-use Rattle.ws_tap.specs.Standing.{is_behind_response, new_sent, with_bytes}
-use Rattle.ws_tap.specs.Tapping.{Part, OfClient, OfServer, all_text, client_text, server_text, sent_by, HasAnswered}
-use Rattle.ws_tap.specs.Tapping.{TapDirection, TapDevices, with_input, with_output, with_client_read}
-use Rattle.ws_tap.specs.Tapping.{with_server_read, IsReadTo, PassesOn, BothLines, HasToldBoth, HasPassedOn, HasTapped}
-use Rattle.ws_tap.specs.Tapping.{AreInOrder, IsAnsweredNext}
-use Rattle.ws_tap.specs.Tapping.{has_ended, device_bytes, new_devices, with_server_written, with_client_written}
+use Rattle.ws_tap.specs.Texts.{source_at, Sent, BothSent, sent_of, Answered, NotYet, After, IsEndText}
+use Rattle.ws_tap.specs.Texts.{AnswersSo, AreInOrder, AreToldLines, Part, OfEnd, all_text, text_of}
+use Rattle.ws_tap.specs.Telling.{LacksFairly}
+use Rattle.ws_tap.specs.Telling.{FindsHead, IsAnswerOfStatus, IsFoundWith, IsHeadTold, IsNewStream, LooksIn}
+use Rattle.ws_tap.specs.Telling.{ShowsAsBefore, TellsFramesBy, TellsSome, released}
+use Rattle.ws_tap.specs.Telling.{released_text}
+use Rattle.ws_tap.specs.Standing.{AnswersNext, AwaitsHead, Knows, LinesStand, SendsTo, SideStands, StandsBehindHead}
+use Rattle.ws_tap.specs.Standing.{stage_at, with_bytes, with_sides_sent, with_stage}
 use Rattle.ws_tap.proofs.HeadLemmas.{head_stays}
-use Rattle.ws_tap.proofs.HeadStarts.{nothing_has_no_head}
-use Rattle.ws_tap.proofs.ClientLemmas.{client_is_text}
-use Rattle.ws_tap.proofs.ServerLemmas.{behind_a_response, none_without_response, response_line_stays}
+use Rattle.ws_tap.proofs.Sides.{found_line}
+use Rattle.ws_tap.proofs.EndLemmas.{behind_head, behind_more, client_refused, client_switches, end_text, frames_begun}
+use Rattle.ws_tap.proofs.EndLemmas.{frames_never, frames_told, frames_wait, line_behind, server_keeps}
+use Rattle.ws_tap.proofs.EndLemmas.{still_in_head}
 
 -- ---- parts
 
 pub all_text_more : (parts more : List Part) → all_text (parts ++ more) ≡ all_text parts ++ all_text more
 all_text_more [] more = refl
-all_text_more (OfClient text ∷ parts) more = ap (λ (t : List ℕ). text ++ t) (all_text_more parts more)
-    ∙ sym (append_assoc text (all_text parts) (all_text more))
-all_text_more (OfServer text ∷ parts) more = ap (λ (t : List ℕ). text ++ t) (all_text_more parts more)
+all_text_more (OfEnd role text ∷ parts) more = ap (λ (t : List ℕ). text ++ t) (all_text_more parts more)
     ∙ sym (append_assoc text (all_text parts) (all_text more))
 
-pub client_text_more : (parts more : List Part) → client_text (parts ++ more) ≡ client_text parts ++ client_text more
-client_text_more [] more = refl
-client_text_more (OfClient text ∷ parts) more = ap (λ (t : List ℕ). text ++ t) (client_text_more parts more)
-    ∙ sym (append_assoc text (client_text parts) (client_text more))
-client_text_more (OfServer text ∷ parts) more = client_text_more parts more
+text_more : (role : Role) (parts more : List Part) → text_of role (parts ++ more) ≡ text_of role parts ++ text_of role
+    more
+text_more Client [] more = refl
+text_more Server [] more = refl
+text_more Client (OfEnd Client text ∷ parts) more = ap (λ (t : List ℕ). text ++ t) (text_more Client parts more)
+    ∙ sym (append_assoc text (text_of Client parts) (text_of Client more))
+text_more Client (OfEnd Server text ∷ parts) more = text_more Client parts more
+text_more Server (OfEnd Client text ∷ parts) more = text_more Server parts more
+text_more Server (OfEnd Server text ∷ parts) more = ap (λ (t : List ℕ). text ++ t) (text_more Server parts more)
+    ∙ sym (append_assoc text (text_of Server parts) (text_of Server more))
 
-pub server_text_more : (parts more : List Part) → server_text (parts ++ more) ≡ server_text parts ++ server_text more
-server_text_more [] more = refl
-server_text_more (OfClient text ∷ parts) more = server_text_more parts more
-server_text_more (OfServer text ∷ parts) more = ap (λ (t : List ℕ). text ++ t) (server_text_more parts more)
-    ∙ sym (append_assoc text (server_text parts) (server_text more))
+-- one part more of an end, and what it leaves of the other
+pub own_part : (role : Role) (text : List ℕ) (parts : List Part)
+    → text_of role (parts ++ OfEnd role text ∷ []) ≡ text_of role parts ++ text
+own_part Client text parts = text_more Client parts (OfEnd Client text ∷ [])
+    ∙ ap (λ (t : List ℕ). text_of Client parts ++ t) (append-nil text)
+own_part Server text parts = text_more Server parts (OfEnd Server text ∷ [])
+    ∙ ap (λ (t : List ℕ). text_of Server parts ++ t) (append-nil text)
 
--- ---- a piece in two calls
+pub other_part : (role : Role) (text : List ℕ) (parts : List Part)
+    → text_of (other_end role) (parts ++ OfEnd role text ∷ []) ≡ text_of (other_end role) parts
+other_part Client text parts = text_more Server parts (OfEnd Client text ∷ []) ∙ append-nil (text_of Server parts)
+other_part Server text parts = text_more Client parts (OfEnd Server text ∷ []) ∙ append-nil (text_of Client parts)
 
-pub behind_where_short : (was is : Bool) (len used : ℕ) → UsesPiece was is len used → used < len → is ≡ true
-behind_where_short was true len used u short = refl
-behind_where_short was false len used u short = absurd (omega (arith, u.2 refl, short))
+-- what is due is written behind what was
+pub due_behind : (parts due begun : List Part) (rest : List ℕ) → all_text due ≡ all_text begun ++ rest
+    → all_text (parts ++ due) ≡ all_text (parts ++ begun) ++ rest
+due_behind parts due begun rest e =
+    all_text_more parts due ∙ ap (λ (t : List ℕ). all_text parts ++ t) e
+    ∙ sym (append_assoc (all_text parts) (all_text begun) rest)
+    ∙ ap (λ (t : List ℕ). t ++ rest) (sym (all_text_more parts begun))
 
-pub rest_is_used : (was is : Bool) (len used : ℕ) → UsesPiece was is len used → was ≡ true → used ≡ len
-rest_is_used was is len used u behind = u.1 behind
-
-pub piece_in_two : (bytes piece rest : List ℕ) (used later : ℕ) → rest ≡ drop used piece → later ≡ length rest
-    → (bytes ++ take used piece) ++ take later rest ≡ bytes ++ piece
-piece_in_two bytes piece rest used later is all =
-    append_assoc bytes (take used piece) (take later rest)
-    ∙ ap (λ (t : List ℕ). bytes ++ (take used piece ++ t)) (ap (λ n. take n rest) all ∙ take-length rest ∙ is)
-    ∙ ap (λ (t : List ℕ). bytes ++ t) (take-append-drop used piece)
-
-pub rest_fits : (bytes piece rest : List ℕ) (used : ℕ) → rest ≡ drop used piece → used ≤ length piece
-    → length bytes + length piece < 2 ^ 64 → length (bytes ++ take used piece) + length rest < 2 ^ 64
-rest_fits bytes piece rest used is few small =
-    omega (
-      arith,
-      small,
-      few,
-      length-append bytes (take used piece),
-      length-take-le used piece few,
-      ap
-          (λ (t : List ℕ). length t) is,
-      length-drop used piece,
-    )
-
-pub piece_in_one : (bytes piece : List ℕ) (used : ℕ) → used ≡ length piece → bytes ++ take used piece ≡ bytes ++ piece
-piece_in_one bytes piece used all = ap (λ (t : List ℕ). bytes ++ t) (ap (λ n. take n piece) all ∙ take-length piece)
-
--- what was told stands for equal bytes and equal texts
-pub client_of_same : (tapped : Tapped) (lines : ClientLines) (answered : Answered) (ended : Bool)
-    (bytes bytes' text text' : List ℕ) → bytes ≡ bytes' → text ≡ text'
-    → HasToldClient tapped lines answered (record { bytes = bytes; ended = ended }) text
-    → HasToldClient tapped lines answered (record { bytes = bytes'; ended = ended }) text'
-client_of_same tapped lines answered ended bytes bytes' text text' eb et h =
-    subst (λ (t : List ℕ). HasToldClient tapped lines answered (record { bytes = bytes'; ended = ended }) t) et
-    (subst (λ (b : List ℕ). HasToldClient tapped lines answered (record { bytes = b; ended = ended }) text) eb h)
-
-pub server_of_same : (tapped : Tapped) (lines : ServerLines) (ended : Bool) (bytes bytes' text text' : List ℕ)
-    → bytes ≡ bytes' → text ≡ text'
-    → HasToldServer tapped lines (record { bytes = bytes; ended = ended }) text
-    → HasToldServer tapped lines (record { bytes = bytes'; ended = ended }) text'
-server_of_same tapped lines ended bytes bytes' text text' eb et h =
-    subst (λ (t : List ℕ). HasToldServer tapped lines (record { bytes = bytes'; ended = ended }) t) et
-    (subst (λ (b : List ℕ). HasToldServer tapped lines (record { bytes = b; ended = ended }) text) eb h)
-
--- ---- what the server has answered
-
-pub answered_same : (answered : Answered) (client client' server server' : Sent) → client.bytes ≡ client'.bytes
-    → server.bytes ≡ server'.bytes → HasAnswered answered client server → HasAnswered answered client' server'
-answered_same NotYet client client' server server' ec es h = subst (λ (t : List ℕ). HasNoHead Response t) es h
-answered_same (After early true) client client' server server' ec es ((more, e), (head, has, is)) =
-    ((more, sym ec ∙ e), (head, subst (λ (t : List ℕ). HasHead Response t head) es has, is))
-answered_same (After early false) client client' server server' ec es ((more, e), (head, has, is)) =
-    ((more, sym ec ∙ e), (head, subst (λ (t : List ℕ). HasHead Response t head) es has, is))
-
--- the client sends more
-pub answered_on : (answered : Answered) (client server : Sent) (more : List ℕ) → HasAnswered answered client server
-    → HasAnswered answered (with_bytes client more) server
-answered_on NotYet client server more h = h
-answered_on (After early true) client server more ((rest, e), h) =
-    ((rest ++ more, ap (λ (t : List ℕ). t ++ more) e ∙ append_assoc early.bytes rest more), h)
-answered_on (After early false) client server more ((rest, e), h) =
-    ((rest ++ more, ap (λ (t : List ℕ). t ++ more) e ∙ append_assoc early.bytes rest more), h)
-
--- the server sends more, and is heard
-pub answered_heard : (answered : Answered) (answer : Answer) (client server : Sent) (more : List ℕ)
-    → HasAnswered answered client server → IsAnswerOf (with_bytes server more) answer
-    → HasAnswered (after_answer answered client answer) client (with_bytes server more)
-answered_heard NotYet answer.NotYet client server more h is = is
-answered_heard NotYet answer.Switches client server more h is = (([], sym (append-nil client.bytes)), is)
-answered_heard NotYet answer.Refuses client server more h is = (([], sym (append-nil client.bytes)), is)
-answered_heard (After early true) answer client server more (b, (head, has, s)) is =
-    (b, (head, head_stays Response server.bytes more head has, s))
-answered_heard (After early false) answer client server more (b, (head, has, s)) is =
-    (b, (head, head_stays Response server.bytes more head has, s))
-
--- what it has answered by then
-pub heard_next : (answered : Answered) (answer : Answer) (client : Sent)
-    → IsAnsweredNext answered (after_answer answered client answer) client
-heard_next NotYet answer.NotYet client = inl refl
-heard_next NotYet answer.Switches client = inr (refl, (true, refl))
-heard_next NotYet answer.Refuses client = inr (refl, (false, refl))
-heard_next (After early switches) answer client = inl refl
-
--- the server sends more behind its head
-pub answered_behind : (answered : Answered) (client server : Sent) (more : List ℕ) (head : Head)
-    → HasHead Response server.bytes head → HasAnswered answered client server
-    → HasAnswered answered client (with_bytes server more)
-answered_behind NotYet client server more head has none = absurd (none head has)
-answered_behind (After early true) client server more head has (b, (other, h, s)) =
-    (b, (other, head_stays Response server.bytes more other h, s))
-answered_behind (After early false) client server more head has (b, (other, h, s)) =
-    (b, (other, head_stays Response server.bytes more other h, s))
-
--- ---- the order of the parts
-
--- the server sends more, and more is told
-pub order_on : (tapped : Tapped) (answered : Answered) (server : Sent) (more : List ℕ) (parts next : List Part)
-    → AreInOrder tapped answered server parts → AreInOrder tapped answered (with_bytes server more) (parts ++ next)
-order_on tapped NotYet server more parts next o = tt
-order_on tapped (After early true) server more parts next o = record {
+-- more parts keep the order
+pub order_more : (tapped : Tapped) (answered : Answered) (parts next : List Part) → AreInOrder tapped answered parts
+    → AreInOrder tapped answered (parts ++ next)
+order_more tapped NotYet parts next o = tt
+order_more tapped (After early true) parts next o = record {
   before = o.before;
   first = o.first;
   waited = o.waited;
   later = o.later ++ next;
   all = ap (λ (p : List Part). p ++ next) o.all
-      ∙ append_assoc o.before (OfServer o.first ∷ OfClient o.waited ∷ o.later) next;
+      ∙ append_assoc o.before (OfEnd Server o.first ∷ OfEnd Client o.waited ∷ o.later) next;
   none_of_server = o.none_of_server;
   of_client = o.of_client;
-  is_first = response_line_stays tapped server.bytes more o.first o.is_first;
+  is_first = o.is_first;
   has_waited = o.has_waited;
 }
-order_on tapped (After early false) server more parts next o = tt
+order_more tapped (After early false) parts next o = tt
 
--- for the same bytes of the server the order is the same
-pub order_same : (tapped : Tapped) (answered : Answered) (server server' : Sent) (parts : List Part)
-    → server.bytes ≡ server'.bytes → AreInOrder tapped answered server parts
-    → AreInOrder tapped answered server' parts
-order_same tapped NotYet server server' parts es o = tt
-order_same tapped (After early true) server server' parts es o = record {
-  before = o.before;
-  first = o.first;
-  waited = o.waited;
-  later = o.later;
-  all = o.all;
-  none_of_server = o.none_of_server;
-  of_client = o.of_client;
-  is_first = subst (λ (t : List ℕ). IsResponseLine tapped t o.first) es o.is_first;
-  has_waited = o.has_waited;
+-- ---- texts
+
+-- the texts of both ends, which have sent this
+pub record TextsStand (tapped : Tapped) (answered : Answered) (both : BothSent) (parts : List Part) : Type 0 where
+  pub knows : Knows answered both.server.bytes
+  pub of_client : IsEndText Client tapped answered both.client (text_of Client parts)
+  pub of_server : IsEndText Server tapped answered both.server (text_of Server parts)
+  pub in_order : AreInOrder tapped answered parts
+
+pub texts_of : (tapped : Tapped) (answered : Answered) (lines : TapLines) (both : BothSent) (parts : List Part)
+    → LinesStand tapped answered lines both parts → TextsStand tapped answered both parts
+texts_of tapped answered lines both parts s = record {
+  knows = s.knows;
+  of_client = end_text Client tapped answered lines.client lines.release both.client (text_of Client parts) s.of_client;
+  of_server = end_text Server tapped answered lines.server lines.release both.server (text_of Server parts) s.of_server;
+  in_order = s.in_order;
 }
-order_same tapped (After early false) server server' parts es o = tt
 
--- more is told
-pub order_more : (tapped : Tapped) (answered : Answered) (server : Sent) (parts next : List Part)
-    → AreInOrder tapped answered server parts → AreInOrder tapped answered server (parts ++ next)
-order_more tapped answered server parts next o =
-    order_same tapped answered (with_bytes server []) server (parts ++ next) (append-nil server.bytes)
-    (order_on tapped answered server [] parts next o)
+-- ---- one end has sent more
 
--- the server is heard: its line, and the lines that waited, stand where it was
-pub order_heard : (tapped : Tapped) (answered : Answered) (answer : Answer) (lines : BothLines) (heard : ClientLines)
-    (mid : ServerLines) (client server : Sent) (parts later : List Part) (front more text : List ℕ)
-    → HasToldBoth tapped answered lines client server parts
-    → IsAnswerOf (with_bytes server front) answer
-    → TellsResponse (is_behind_response lines.server.stage) (is_behind_response mid.stage) tapped
-    (server.bytes ++ front) more
-    → HasToldServer tapped mid (with_bytes server front) (server_text parts ++ more)
-    → HasToldClient tapped heard (after_answer answered client answer) client (client_text parts ++ text)
-    → AreInOrder tapped (after_answer answered client answer) (with_bytes server front)
-    (parts ++ (OfServer more ∷ OfClient text ∷ later))
-order_heard tapped NotYet answer.NotYet lines heard mid client server parts later front more text t is line s c = tt
-order_heard tapped NotYet answer.Switches lines heard mid client server parts later front more text t (head, has, is)
-    line s c =
-    let (none, before) = none_without_response lines.server.stage tapped server (server_text parts) t.has_answered
-    t.of_server.1 in record {
+-- it stands behind its head
+abbrev pub is_behind : SideStage → Bool
+is_behind (side.Head room) = false
+is_behind (side.Frames lines) = true
+
+-- so many bytes of a piece of an end were used, and these parts told
+pub record IsSentOn (role : Role) (tapped : Tapped) (answered : Answered) (old new : TapLines) (both : BothSent)
+    (parts : List Part) (piece : List ℕ) (output : Device) (used : ℕ) : Type 0 where
+  pub more : List Part
+  pub wrote : HasWritten (all_text more) output
+  pub works : output.failed ≡ false
+  pub few : used ≤ length piece
+  pub next : Answered
+  pub answers : AnswersNext role answered next both (take used piece)
+  pub same : is_behind (stage_at role old) ≡ true → next ≡ answered
+  pub whole : is_behind (stage_at role old) ≡ true → used ≡ length piece
+  pub behind : used < length piece → is_behind (stage_at role new) ≡ true
+  pub stands : LinesStand tapped next new (with_sides_sent role both (with_bytes (sent_of role both) (take used piece)))
+      (parts ++ more)
+
+-- or a beginning of what is due was, for a beginning of the piece
+pub record IsSentInPart (role : Role) (tapped : Tapped) (answered : Answered) (old : TapLines) (both : BothSent)
+    (parts : List Part) (piece : List ℕ) (output : Device) (fault : ShowFault) : Type 0 where
+  pub more : List Part
+  pub wrote : HasWritten (all_text more) output
+  pub failed : output.failed ≡ is_of_a_write fault
+  pub fair : MayEndBy tapped.style fault
+  pub front : List ℕ
+  pub later : List ℕ
+  pub cut : piece ≡ front ++ later
+  pub next : Answered
+  pub answers : AnswersNext role answered next both front
+  pub same : is_behind (stage_at role old) ≡ true → next ≡ answered
+  pub due : List Part
+  pub rest : List ℕ
+  pub texts : TextsStand tapped next (with_sides_sent role both (with_bytes (sent_of role both) front)) due
+  pub begins : all_text due ≡ all_text (parts ++ more) ++ rest
+
+knows_on : (answered : Answered) (bytes more : List ℕ) → (answered ≡ NotYet → HasNoHead Server (bytes ++ more))
+    → Knows answered bytes → Knows answered (bytes ++ more)
+knows_on NotYet bytes more none k = none refl
+knows_on (After early switches) bytes more none (head, has) = (head, head_stays Server bytes more head has)
+
+knows_for : (role : Role) (answered : Answered) (both : BothSent) (more : List ℕ)
+    → (role ≡ Server → answered ≡ NotYet → HasNoHead Server (both.server.bytes ++ more))
+    → Knows answered both.server.bytes
+    → Knows answered (with_sides_sent role both (with_bytes (sent_of role both) more)).server.bytes
+knows_for Client answered both more none k = k
+knows_for Server answered both more none k = knows_on answered both.server.bytes more (none refl) k
+
+-- a server that stands behind its head has answered
+not_headless : (role : Role) (answered : Answered) (both : BothSent) (head : Head) (bytes : List ℕ)
+    → Knows answered both.server.bytes → HasHead role (sent_of role both).bytes head
+    → role ≡ Server → answered ≡ NotYet → HasNoHead Server (both.server.bytes ++ bytes)
+not_headless Client answered both head bytes k has server open_yet = absurd cc
+not_headless Server NotYet both head bytes k has server open_yet = absurd (k head has)
+not_headless Server (After early switches) both head bytes k has server open_yet = absurd cc
+
+stage_set : (role : Role) (old : TapLines) (stage : SideStage) (release : Release)
+    → stage_at role (with_stage role old stage release) ≡ stage
+stage_set Client old stage release = refl
+stage_set Server old stage release = refl
+
+-- the lines of an end stand anew, and those of the other as before
+pub lines_with : (role : Role) (tapped : Tapped) (answered : Answered) (old : TapLines) (stage : SideStage)
+    (release : Release) (both : BothSent) (sent : Sent) (parts : List Part) (more : List ℕ) → old.tapped ≡ tapped
+    → Knows answered (with_sides_sent role both sent).server.bytes → AreInOrder tapped answered parts
+    → SideStands role tapped answered stage release sent (text_of role parts ++ more)
+    → SideStands (other_end role) tapped answered (stage_at (other_end role) old) release
+    (sent_of (other_end role) both) (text_of (other_end role) parts)
+    → LinesStand tapped answered (with_stage role old stage release) (with_sides_sent role both sent)
+    (parts ++ OfEnd role more ∷ [])
+lines_with Client tapped answered old stage release both sent parts more e k o own other = record {
+  tapped_is = e;
+  knows = k;
+  of_client = subst (λ (t : List ℕ). SideStands Client tapped answered stage release sent t)
+      (sym (own_part Client more parts)) own;
+  of_server = subst (λ (t : List ℕ). SideStands Server tapped answered old.server release both.server t)
+      (sym (other_part Client more parts)) other;
+  in_order = order_more tapped answered parts (OfEnd Client more ∷ []) o;
+}
+lines_with Server tapped answered old stage release both sent parts more e k o own other = record {
+  tapped_is = e;
+  knows = k;
+  of_client = subst (λ (t : List ℕ). SideStands Client tapped answered old.client release both.client t)
+      (sym (other_part Server more parts)) other;
+  of_server = subst (λ (t : List ℕ). SideStands Server tapped answered stage release sent t)
+      (sym (own_part Server more parts)) own;
+  in_order = order_more tapped answered parts (OfEnd Server more ∷ []) o;
+}
+
+-- and so their texts
+texts_with : (role : Role) (tapped : Tapped) (answered : Answered) (both : BothSent) (sent : Sent) (parts : List Part)
+    (more : List ℕ) → Knows answered (with_sides_sent role both sent).server.bytes → AreInOrder tapped answered parts
+    → IsEndText role tapped answered sent (text_of role parts ++ more)
+    → IsEndText (other_end role) tapped answered (sent_of (other_end role) both) (text_of (other_end role) parts)
+    → TextsStand tapped answered (with_sides_sent role both sent) (parts ++ OfEnd role more ∷ [])
+texts_with Client tapped answered both sent parts more k o own other = record {
+  knows = k;
+  of_client = subst (λ (t : List ℕ). IsEndText Client tapped answered sent t) (sym (own_part Client more parts)) own;
+  of_server = subst (λ (t : List ℕ). IsEndText Server tapped answered both.server t)
+      (sym (other_part Client more parts)) other;
+  in_order = order_more tapped answered parts (OfEnd Client more ∷ []) o;
+}
+texts_with Server tapped answered both sent parts more k o own other = record {
+  knows = k;
+  of_client = subst (λ (t : List ℕ). IsEndText Client tapped answered both.client t)
+      (sym (other_part Server more parts)) other;
+  of_server = subst (λ (t : List ℕ). IsEndText Server tapped answered sent t) (sym (own_part Server more parts)) own;
+  in_order = order_more tapped answered parts (OfEnd Server more ∷ []) o;
+}
+
+-- the answer is as before
+sent_so : (role : Role) (tapped : Tapped) (answered : Answered) (old : TapLines) (stage : SideStage)
+    (release : Release) (both : BothSent) (parts : List Part) (piece bytes more : List ℕ) (output : Device) (used : ℕ)
+    → LinesStand tapped answered old both parts → bytes ≡ take used piece → used ≤ length piece
+    → (is_behind (stage_at role old) ≡ true → used ≡ length piece)
+    → (used < length piece → is_behind stage ≡ true)
+    → output.failed ≡ false → HasWritten more output
+    → (role ≡ Server → answered ≡ NotYet → HasNoHead Server (both.server.bytes ++ bytes))
+    → SideStands role tapped answered stage release (with_bytes (sent_of role both) bytes) (text_of role parts ++ more)
+    → SideStands (other_end role) tapped answered (stage_at (other_end role) old) release
+    (sent_of (other_end role) both) (text_of (other_end role) parts)
+    → IsSentOn role tapped answered old (with_stage role old stage release) both parts piece output used
+sent_so role tapped answered old stage release both parts piece bytes more output used s is few whole behind works
+    wrote none own other = record {
+      more = OfEnd role more ∷ [];
+      wrote = subst (λ (t : List ℕ). HasWritten t output) (sym (append-nil more)) wrote;
+      works = works;
+      few = few;
+      next = answered;
+      answers = inl refl;
+      same = λ stood. refl;
+      whole = whole;
+      behind = λ short. ap (λ (x : SideStage). is_behind x) (stage_set role old stage release) ∙ behind short;
+      stands = subst (λ (b : List ℕ). LinesStand tapped answered (with_stage role old stage release)
+          (with_sides_sent role both (with_bytes (sent_of role both) b)) (parts ++ OfEnd role more ∷ [])) is
+          (lines_with role tapped answered old stage release both (with_bytes (sent_of role both) bytes) parts more
+          s.tapped_is (knows_for role answered both bytes none s.knows) s.in_order own other);
+    }
+
+whole_is : (used : ℕ) (piece : List ℕ) → used ≡ length piece → piece ≡ take used piece
+whole_is used piece e = sym (take-length piece) ∙ ap (λ n. take n piece) (sym e)
+
+-- ---- still in a head
+
+no_head_in : (role : Role) (both : BothSent) (room piece : List ℕ)
+    → LooksIn role room ((sent_of role both).bytes ++ piece)
+    → {answered : Answered} → role ≡ Server → answered ≡ NotYet → HasNoHead Server (both.server.bytes ++ piece)
+no_head_in Client both room piece looks server open_yet = absurd cc
+no_head_in Server both room piece looks server open_yet = looks.1
+
+looks_ok : (role : Role) (tapped : Tapped) (answered : Answered) (old : TapLines) (was room : List ℕ)
+    (both : BothSent) (parts : List Part) (piece : List ℕ) (output : Device) (used : ℕ)
+    → LinesStand tapped answered old both parts → stage_at role old ≡ side.Head was
+    → SideStands role tapped answered (side.Head was) old.release (sent_of role both) (text_of role parts)
+    → SideStands (other_end role) tapped answered (stage_at (other_end role) old) old.release
+    (sent_of (other_end role) both) (text_of (other_end role) parts)
+    → used ≡ length piece → output.failed ≡ false → HasWritten [] output
+    → LooksIn role room ((sent_of role both).bytes ++ piece)
+    → IsSentOn role tapped answered old (with_stage role old (side.Head room) old.release) both parts piece output used
+looks_ok role tapped answered old was room both parts piece output used s at own other whole works wrote looks =
+    sent_so role tapped answered old (side.Head room) old.release both parts piece piece [] output used s
+    (whole_is used piece whole) (omega (arith, whole)) (λ stood. whole)
+    (λ short. absurd (omega (arith, short, whole))) works wrote (no_head_in role both room piece looks)
+    (subst (λ (t : List ℕ). SideStands role tapped answered (side.Head room) old.release
+    (with_bytes (sent_of role both) piece) t) (sym (append-nil (text_of role parts)))
+    (still_in_head role tapped answered was room old.release (sent_of role both) (text_of role parts) piece own looks))
+    other
+
+-- ---- frames
+
+behind_is : (role : Role) (old : TapLines) (lines : FrameLines) → stage_at role old ≡ side.Frames lines
+    → is_behind (stage_at role old) ≡ true
+behind_is role old lines at = ap (λ (x : SideStage). is_behind x) at
+
+frames_ok : (role : Role) (tapped : Tapped) (answered : Answered) (old : TapLines) (lines after : FrameLines)
+    (release new : Release) (both : BothSent) (parts : List Part) (piece : List ℕ) (output : Device) (used : ℕ)
+    → LinesStand tapped answered old both parts → (sent_of role both).ended ≡ false → used ≡ length piece
+    → ShowsAsBefore lines after
+    → StandsBehindHead role tapped answered lines release (sent_of role both) (text_of role parts)
+    → SideStands (other_end role) tapped answered (stage_at (other_end role) old) release
+    (sent_of (other_end role) both) (text_of (other_end role) parts)
+    → TellsFramesBy lines after release new piece output (Ok tt)
+    → IsSentOn role tapped answered old (with_stage role old (side.Frames after) new) both parts piece output used
+frames_ok Client tapped answered old lines after (Awaited kept) new both parts piece output used s going whole alike own
+    other (works, wrote, (now, is, keeps)) =
+    subst (λ (r : Release). IsSentOn Client tapped answered old (with_stage Client old (side.Frames after) r) both parts
+    piece output used) (sym is)
+    (sent_so Client tapped answered old (side.Frames after) (Awaited now) both parts piece piece [] output used s
+    (whole_is used piece whole) (omega (arith, whole)) (λ stood. whole) (λ short. refl) works wrote
+    (not_headless Client answered both own.head piece s.knows own.has)
+    (behind_more Client tapped answered lines after (Awaited kept) (Awaited now) both.client (text_of Client parts)
+    piece [] own.shown own alike (append-nil own.shown)
+    (frames_wait Client lines after kept now answered (source_at Client tapped) both.client own.shown piece own.head
+    own.has own.source going keeps own.stands))
+    (server_keeps tapped answered old.server kept now both.server (text_of Server parts) other))
+frames_ok Server tapped NotYet old lines after (Awaited kept) new both parts piece output used s going whole alike own
+    other t = absurd own.stands.1.2
+frames_ok Server tapped (After early switches) old lines after (Awaited kept) new both parts piece output used s going
+    whole alike own other t = absurd own.stands
+frames_ok role tapped answered old lines after Told new both parts piece output used s going whole alike own other
+    (is, takes, fair) =
+    let (more, wrote, works, stands) = frames_told role lines after answered (source_at role tapped)
+    (sent_of role both) own.shown piece own.head output own.has going takes own.stands in
+    subst (λ (r : Release). IsSentOn role tapped answered old (with_stage role old (side.Frames after) r) both parts
+    piece output used) (sym is)
+    (sent_so role tapped answered old (side.Frames after) Told both parts piece piece more output used s
+    (whole_is used piece whole) (omega (arith, whole)) (λ stood. whole) (λ short. refl) works wrote
+    (not_headless role answered both own.head piece s.knows own.has)
+    (behind_more role tapped answered lines after Told Told (sent_of role both) (text_of role parts) piece more
+    (own.shown ++ more) own alike refl stands) other)
+frames_ok role tapped answered old lines after Never new both parts piece output used s going whole alike own other
+    (works, wrote, is) =
+    subst (λ (r : Release). IsSentOn role tapped answered old (with_stage role old (side.Frames after) r) both parts
+    piece output used) (sym is)
+    (sent_so role tapped answered old (side.Frames after) Never both parts piece piece [] output used s
+    (whole_is used piece whole) (omega (arith, whole)) (λ stood. whole) (λ short. refl) works wrote
+    (not_headless role answered both own.head piece s.knows own.has)
+    (behind_more role tapped answered lines after Never Never (sent_of role both) (text_of role parts) piece []
+    own.shown own alike (append-nil own.shown)
+    (frames_never role lines after answered (source_at role tapped) own.head.len (sent_of role both)
+    (with_bytes (sent_of role both) piece) own.shown own.stands)) other)
+
+-- lines that are due behind a head
+text_behind : (role : Role) (tapped : Tapped) (answered : Answered) (lines : FrameLines) (release : Release)
+    (sent : Sent) (text piece more : List ℕ) (s : StandsBehindHead role tapped answered lines release sent text)
+    → AreToldLines role (source_at role tapped) s.head.len answered (with_bytes sent piece) (s.shown ++ more)
+    → IsEndText role tapped answered (with_bytes sent piece) (text ++ more)
+text_behind role tapped answered lines release sent text piece more s are = inr (record {
+  head = s.head;
+  lines = s.shown ++ more;
+  has = head_stays role sent.bytes piece s.head s.has;
+  is = line_behind role tapped sent.bytes text piece more s.shown (s.shown ++ more) s.head s.has s.is refl;
+  are = are;
+})
+
+fair_by : (tapped : Tapped) (lines : FrameLines) (fault : ShowFault) → keeps_frames lines ≡ takes_memory tapped.style
+    → LacksFairly lines (Err fault) → MayEndBy tapped.style fault
+fair_by tapped lines show_fault.Write keeps fair = tt
+fair_by tapped lines show_fault.NoMemory keeps fair = sym keeps ∙ fair
+
+-- what was written of frames, and what is due behind it
+frames_in_part : (role : Role) (tapped : Tapped) (answered : Answered) (lines after : FrameLines)
+    (release new : Release) (sent : Sent) (text piece : List ℕ) (output : Device) (fault : ShowFault)
+    → sent.ended ≡ false → ShowsAsBefore lines after
+    → (s : StandsBehindHead role tapped answered lines release sent text)
+    → TellsFramesBy lines after release new piece output (Err fault)
+    → (more : List ℕ) × (rest : List ℕ) × HasWritten more output × (output.failed ≡ is_of_a_write fault)
+    × MayEndBy tapped.style fault
+    × AreToldLines role (source_at role tapped) s.head.len answered (with_bytes sent piece)
+    ((s.shown ++ more) ++ rest)
+frames_in_part role tapped NotYet lines after (Awaited kept) new sent text piece output fault going alike s
+    (works, wrote, is, keeps) = (
+      [],
+      [],
+      wrote,
+      works ∙ sym (ap is_of_a_write is),
+      subst (λ (f : ShowFault). MayEndBy tapped.style f) (sym is) (sym (s.keeps going) ∙ keeps),
+      append-nil (s.shown ++ []) ∙ append-nil s.shown ∙ s.stands.0,
+    )
+frames_in_part role tapped (After early switches) lines after
+    (Awaited kept) new sent text piece output fault going alike s
+    t = absurd s.stands
+frames_in_part role tapped answered lines after Told new sent text piece output fault going alike s (is, takes, fair) =
+    let (more, rest, wrote, failed, are) = frames_begun role lines after answered (source_at role tapped) sent s.shown
+    piece s.head output fault s.has going (alike.source ∙ s.source) takes s.stands in
+    (more, rest, wrote, failed, fair_by tapped lines fault (s.keeps going) fair, are)
+frames_in_part role tapped answered lines after Never new sent text piece output fault going alike s t = absurd t
+
+frames_err : (role : Role) (tapped : Tapped) (answered : Answered) (old : TapLines) (lines after : FrameLines)
+    (release new : Release) (both : BothSent) (parts : List Part) (piece : List ℕ) (output : Device)
+    (fault : ShowFault)
+    → LinesStand tapped answered old both parts → (sent_of role both).ended ≡ false → ShowsAsBefore lines after
+    → StandsBehindHead role tapped answered lines release (sent_of role both) (text_of role parts)
+    → IsEndText (other_end role) tapped answered (sent_of (other_end role) both) (text_of (other_end role) parts)
+    → TellsFramesBy lines after release new piece output (Err fault)
+    → IsSentInPart role tapped answered old both parts piece output fault
+frames_err role tapped answered old lines after release new both parts piece output fault s going alike own other t =
+    let (more, rest, wrote, failed, fair, are) = frames_in_part role tapped answered lines after release new
+    (sent_of role both) (text_of role parts) piece output fault going alike own t in record {
+      more = OfEnd role more ∷ [];
+      wrote = subst (λ (t : List ℕ). HasWritten t output) (sym (append-nil more)) wrote;
+      failed = failed;
+      fair = fair;
+      front = piece;
+      later = [];
+      cut = sym (append-nil piece);
+      next = answered;
+      answers = inl refl;
+      same = λ stood. refl;
+      due = parts ++ OfEnd role (more ++ rest) ∷ [];
+      rest = rest;
+      texts = texts_with role tapped answered both (with_bytes (sent_of role both) piece) parts (more ++ rest)
+          (knows_for role answered both piece (not_headless role answered both own.head piece s.knows own.has) s.knows)
+          s.in_order
+          (text_behind role tapped answered lines release (sent_of role both) (text_of role parts) piece (more ++ rest)
+          own (subst (λ (t : List ℕ). AreToldLines role (source_at role tapped) own.head.len answered
+          (with_bytes (sent_of role both) piece) t) (append_assoc own.shown more rest) are))
+          other;
+      begins = due_behind parts (OfEnd role (more ++ rest) ∷ []) (OfEnd role more ∷ []) rest
+          (append-nil (more ++ rest) ∙ ap (λ (t : List ℕ). t ++ rest) (sym (append-nil more)));
+    }
+
+-- ---- a head that is whole
+
+-- so many bytes of a piece belong to it
+found_behind : (role : Role) (tapped : Tapped) (bytes piece : List ℕ) (found : HeadFound)
+    → IsFoundWith role tapped bytes piece found → length bytes ≤ found.head.len
+found_behind role tapped bytes piece found f =
+    omega (arith, f.whole, length-append bytes (take found.used piece))
+
+-- a request answers nothing
+request_answers : (found : HeadFound) (answer : Answer) (bytes : List ℕ) → HasHead Client bytes found.head
+    → IsAnswerOfStatus found.head.status answer → answer ≡ reply.NotYet
+request_answers found reply.NotYet bytes has is = refl
+request_answers found reply.Switches bytes (has, none) is = absurd (let e : None ≡ Some 101 = sym none ∙ is in cc)
+request_answers found reply.Refuses bytes (has, none) is = absurd (is.1 none)
+
+releases_none : (release : Release) → (released release reply.NotYet ≡ release)
+    × (released_text release reply.NotYet ≡ [])
+releases_none (Awaited kept) = (refl, refl)
+releases_none Told = (refl, refl)
+releases_none Never = (refl, refl)
+
+-- the lines behind a request
+request_stands : (tapped : Tapped) (answered : Answered) (old : TapLines) (room : List ℕ) (lines : FrameLines)
+    (both : BothSent) (parts : List Part) (piece : List ℕ) (found : HeadFound)
+    → LinesStand tapped answered old both parts → both.client.ended ≡ false
+    → SideStands Client tapped answered (side.Head room) old.release both.client (text_of Client parts)
+    → IsFoundWith Client tapped both.client.bytes piece found → IsNewStream Client tapped lines
+    → LinesStand tapped answered (with_stage Client old (side.Frames lines) old.release)
+    (with_sides_sent Client both (with_bytes both.client (take found.used piece)))
+    (parts ++ OfEnd Client found.line ∷ [])
+request_stands tapped answered old room lines both parts piece found s going (l, none, a) f new =
+    lines_with Client tapped answered old (side.Frames lines) old.release both
+    (with_bytes both.client (take found.used piece)) parts found.line s.tapped_is s.knows s.in_order
+    (behind_head Client tapped answered old.release both.client both.client (text_of Client parts) piece found lines f
+    new none going a going (found_behind Client tapped both.client.bytes piece found f) (λ e. absurd cc))
+    s.of_server
+
+request_ok : (tapped : Tapped) (answered : Answered) (old : TapLines) (room : List ℕ) (lines : FrameLines)
+    (release : Release) (both : BothSent) (parts : List Part) (piece : List ℕ) (found : HeadFound) (answer : Answer)
+    (output : Device) (used : ℕ)
+    → LinesStand tapped answered old both parts → both.client.ended ≡ false → old.client ≡ side.Head room
+    → SideStands Client tapped answered (side.Head room) old.release both.client (text_of Client parts)
+    → IsFoundWith Client tapped both.client.bytes piece found → IsNewStream Client tapped lines
+    → IsAnswerOfStatus found.head.status answer
+    → IsHeadTold found answer (record { old = old.release; new = release }) output (Ok used)
+    → IsSentOn Client tapped answered old (with_stage Client old (side.Frames lines) release) both parts piece output
+    used
+request_ok tapped answered old room lines release both parts piece found answer output used s going at own f new is
+    (works, same, now, wrote) =
+    let none = request_answers found answer (both.client.bytes ++ take found.used piece) f.has is in
+    let (stays, nothing) = releases_none old.release in
+    let release_is : old.release ≡ release = sym (now ∙ ap (λ (a : Answer). released old.release a) none ∙ stays) in
+    let text_is : found.line ++ released_text old.release answer ≡ found.line ++ [] =
+    ap (λ (t : List ℕ). found.line ++ t) (ap (λ (a : Answer). released_text old.release a) none ∙ nothing) in record {
+      more = OfEnd Client found.line ∷ [];
+      wrote = subst (λ (t : List ℕ). HasWritten t output) text_is wrote;
+      works = works;
+      few = omega (arith, same, f.used);
+      next = answered;
+      answers = inl refl;
+      same = λ stood. refl;
+      whole = λ stood. absurd (let e : true ≡ false = sym stood ∙ ap (λ (x : SideStage). is_behind x) at in cc);
+      behind = λ short. refl;
+      stands = subst (λ (r : Release). LinesStand tapped answered (with_stage Client old (side.Frames lines) r)
+          (with_sides_sent Client both (with_bytes both.client (take used piece)))
+          (parts ++ OfEnd Client found.line ∷ []))
+          release_is
+          (subst (λ n. LinesStand tapped answered (with_stage Client old (side.Frames lines) old.release)
+          (with_sides_sent Client both (with_bytes both.client (take n piece))) (parts ++ OfEnd Client found.line ∷ []))
+          (sym same) (request_stands tapped answered old room lines both parts piece found s going own f new));
+    }
+
+-- a front of a piece, and what is behind it
+front_of_piece : (used : ℕ) (piece : List ℕ) → piece ≡ take used piece ++ drop used piece
+front_of_piece used piece = sym (take-append-drop used piece)
+
+request_err : (tapped : Tapped) (answered : Answered) (old : TapLines) (room : List ℕ) (lines : FrameLines)
+    (release : Release) (both : BothSent) (parts : List Part) (piece : List ℕ) (found : HeadFound) (answer : Answer)
+    (output : Device) (fault : ShowFault)
+    → LinesStand tapped answered old both parts → both.client.ended ≡ false
+    → SideStands Client tapped answered (side.Head room) old.release both.client (text_of Client parts)
+    → IsFoundWith Client tapped both.client.bytes piece found → IsNewStream Client tapped lines
+    → IsAnswerOfStatus found.head.status answer
+    → IsHeadTold found answer (record { old = old.release; new = release }) output (Err fault)
+    → IsSentInPart Client tapped answered old both parts piece output fault
+request_err tapped answered old room lines release both parts piece found answer output fault s going own f new is
+    (failed, write, (front, rest, all, wrote)) =
+    let none = request_answers found answer (both.client.bytes ++ take found.used piece) f.has is in
+    let nothing = (releases_none old.release).1 in
+    let text_is : found.line ++ [] ≡ found.line ++ released_text old.release answer =
+    ap (λ (t : List ℕ). found.line ++ t) (sym (ap (λ (a : Answer). released_text old.release a) none ∙ nothing)) in
+    record {
+      more = OfEnd Client front ∷ [];
+      wrote = subst (λ (t : List ℕ). HasWritten t output) (sym (append-nil front)) wrote;
+      failed = failed ∙ sym (ap is_of_a_write write);
+      fair = subst (λ (f : ShowFault). MayEndBy tapped.style f) (sym write) tt;
+      front = take found.used piece;
+      later = drop found.used piece;
+      cut = front_of_piece found.used piece;
+      next = answered;
+      answers = inl refl;
+      same = λ stood. refl;
+      due = parts ++ OfEnd Client found.line ∷ [];
+      rest = rest;
+      texts = texts_of tapped answered (with_stage Client old (side.Frames lines) old.release)
+          (with_sides_sent Client both (with_bytes both.client (take found.used piece)))
+          (parts ++ OfEnd Client found.line ∷ [])
+          (request_stands tapped answered old room lines both parts piece found s going own f new);
+      begins = due_behind parts (OfEnd Client found.line ∷ []) (OfEnd Client front ∷ []) rest
+          (text_is ∙ all ∙ ap (λ (t : List ℕ). t ++ rest) (sym (append-nil front)));
+    }
+
+-- ---- a response
+
+-- both of these parts are behind the others
+abbrev pub response_parts : List ℕ → List ℕ → List Part
+response_parts first waited = OfEnd Server first ∷ OfEnd Client waited ∷ []
+
+client_of_response : (parts : List Part) (first waited : List ℕ)
+    → text_of Client (parts ++ response_parts first waited) ≡ text_of Client parts ++ waited
+client_of_response parts first waited = text_more Client parts (response_parts first waited)
+    ∙ ap (λ (t : List ℕ). text_of Client parts ++ t) (append-nil waited)
+
+server_of_response : (parts : List Part) (first waited : List ℕ)
+    → text_of Server (parts ++ response_parts first waited) ≡ text_of Server parts ++ first
+server_of_response parts first waited = text_more Server parts (response_parts first waited)
+    ∙ ap (λ (t : List ℕ). text_of Server parts ++ t) (append-nil first)
+
+-- what both have sent with the response
+abbrev pub with_response : BothSent → List ℕ → BothSent
+with_response both bytes = with_sides_sent Server both (with_bytes both.server bytes)
+
+-- the lines behind a response
+response_stands : (tapped : Tapped) (old : TapLines) (room : List ℕ) (lines : FrameLines) (release : Release)
+    (switches : Bool) (both : BothSent) (parts : List Part) (piece : List ℕ) (found : HeadFound) (waited : List ℕ)
+    → LinesStand tapped NotYet old both parts → both.server.ended ≡ false → text_of Server parts ≡ []
+    → IsFoundWith Server tapped both.server.bytes piece found → IsNewStream Server tapped lines
+    → AwaitsHead Server release (After (with_response both (take found.used piece)) switches)
+    (with_bytes both.server (take found.used piece))
+    → SideStands Client tapped (After (with_response both (take found.used piece)) switches) old.client release
+    both.client (text_of Client parts ++ waited)
+    → AreInOrder tapped (After (with_response both (take found.used piece)) switches)
+    (parts ++ response_parts found.line waited)
+    → LinesStand tapped (After (with_response both (take found.used piece)) switches)
+    (with_stage Server old (side.Frames lines) release) (with_response both (take found.used piece))
+    (parts ++ response_parts found.line waited)
+response_stands tapped old room lines release switches both parts piece found waited s going none f new a client o =
+    let early = with_response both (take found.used piece) in record {
+      tapped_is = s.tapped_is;
+      knows = (found.head, f.has);
+      of_client = subst (λ (t : List ℕ). SideStands Client tapped (After early switches) old.client release both.client
+          t) (sym (client_of_response parts found.line waited)) client;
+      of_server = subst (λ (t : List ℕ). SideStands Server tapped (After early switches) (side.Frames lines) release
+          early.server t) (sym (server_of_response parts found.line waited))
+          (behind_head Server tapped (After early switches) release early.server both.server (text_of Server parts)
+          piece found lines f new none going a going (omega (arith, f.whole)) (λ e open_yet. absurd cc));
+      in_order = o;
+    }
+
+-- the line of a response is the first that is told of its server, and those that waited stand behind it
+in_order_now : (tapped : Tapped) (old : TapLines) (kept : KeptValue) (both : BothSent) (parts : List Part)
+    (piece : List ℕ) (found : HeadFound) → text_of Server parts ≡ []
+    → IsFoundWith Server tapped both.server.bytes piece found
+    → SideStands Client tapped NotYet old.client (Awaited kept) both.client (text_of Client parts)
+    → AreInOrder tapped (After (with_response both (take found.used piece)) true)
+    (parts ++ response_parts found.line kept.text)
+in_order_now tapped old kept both parts piece found none f client =
+    let early = with_response both (take found.used piece) in record {
       before = parts;
-      first = more;
-      waited = text;
-      later = later;
+      first = found.line;
+      waited = kept.text;
+      later = [];
       all = refl;
       none_of_server = none;
-      of_client = client_is_text lines.client.stage lines.client.release tapped NotYet client (client_text parts)
-          t.of_client.1;
-      is_first = line before
-          (behind_a_response mid.stage tapped (with_bytes server front) (server_text parts ++ more) head has s.1);
-      has_waited = client_is_text heard.stage heard.release tapped (After client true) client
-          (client_text parts ++ text) c.1;
-    }
-order_heard tapped NotYet answer.Refuses lines heard mid client server parts later front more text t is line s c = tt
-order_heard tapped (After early switches) answer lines heard mid client server parts later front more text t is line s
-    c = order_on tapped (After early switches) server front parts (OfServer more ∷ OfClient text ∷ later) t.in_order
-
--- a server that stands behind its head has one
-head_of_stage : (at : ServerStage) (tapped : Tapped) (sent : Sent) (text : List ℕ) → is_behind_response at ≡ true
-    → ServerStandsAt at tapped sent text → (head : Head) × HasHead Response sent.bytes head
-head_of_stage (server.Head room) tapped sent text behind s = absurd cc
-head_of_stage (server.Frames lines) tapped sent text behind (head, shown, has, switches, is, source, on) = (head, has)
-head_of_stage server.Other tapped sent text behind (head, has, other, is) = (head, has)
-
-pub head_behind : (lines : ServerLines) (tapped : Tapped) (sent : Sent) (text : List ℕ)
-    → is_behind_response lines.stage ≡ true → HasToldServer tapped lines sent text → (head : Head)
-    × HasHead Response sent.bytes head
-head_behind lines tapped sent text behind told = head_of_stage lines.stage tapped sent text behind told.1
-
--- ---- a pipe's stage
-
-pub open_after : (held : List ℕ) (at : PipeStage) → next_after held at ≡ Fill → (at ≡ stage.Open) × (held ≡ [])
-open_after [] stage.Open is = (refl, refl)
-open_after [] stage.Ended is = absurd cc
-open_after [] stage.Passed is = absurd cc
-open_after (byte ∷ held) at is = absurd cc
-
-pub ended_after : (held : List ℕ) (at : PipeStage) → next_after held at ≡ EndDirection → (at ≡ stage.Ended)
-    × (held ≡ [])
-ended_after [] stage.Open is = absurd cc
-ended_after [] stage.Ended is = (refl, refl)
-ended_after [] stage.Passed is = absurd cc
-ended_after (byte ∷ held) at is = absurd cc
-
-pub over_after : (held : List ℕ) (at : PipeStage) → next_after held at ≡ Nothing → (at ≡ stage.Passed) × (held ≡ [])
-over_after [] stage.Open is = absurd cc
-over_after [] stage.Ended is = absurd cc
-over_after [] stage.Passed is = (refl, refl)
-over_after (byte ∷ held) at is = absurd cc
-
--- ---- one direction
-
-pub read_passes : (old new : PipeValue) (direction : TapDirection) (read more : List ℕ) (left : Option (List ℕ))
-    → Consumes direction.input.new left more
-    → ((read : List ℕ) (written : List ℕ) → HasPassed old read written → HasPassed new (read ++ more) written)
-    → IsReadTo new.stage left
-    → PassesOn old direction read → PassesOn new (with_input direction left) (read ++ more)
-read_passes old new direction read more left consumes passes to p = record {
-  written = p.written;
-  has_read = Consumes-trans direction.input.old direction.input.new left read more p.has_read consumes;
-  has_written = p.has_written;
-  has_passed = passes read p.written p.has_passed;
-  is_read_to = to;
-}
-
-pub write_passes : (old new : PipeValue) (direction : TapDirection) (read more : List ℕ) (held : Option (List ℕ))
-    → Appends direction.output.new held more
-    → ((read : List ℕ) (written : List ℕ) → HasPassed old read written → HasPassed new read (written ++ more))
-    → new.stage ≡ old.stage
-    → PassesOn old direction read → PassesOn new (with_output direction held) read
-write_passes old new direction read more held appends passes same p = record {
-  written = p.written ++ more;
-  has_read = p.has_read;
-  has_written = Appends-trans direction.output.old direction.output.new held p.written more p.has_written appends;
-  has_passed = passes read p.written p.has_passed;
-  is_read_to = subst (λ (at : PipeStage). IsReadTo at direction.input.new) (sym same) p.is_read_to;
-}
-
--- ---- one part more
-
-only_client : (text : List ℕ) (parts : List Part) → client_text (parts ++ OfClient text ∷ []) ≡ client_text parts ++
-    text
-only_client text parts = client_text_more parts (OfClient text ∷ [])
-    ∙ ap (λ (t : List ℕ). client_text parts ++ t) (append-nil text)
-
-not_server : (text : List ℕ) (parts : List Part) → server_text (parts ++ OfClient text ∷ []) ≡ server_text parts
-not_server text parts = server_text_more parts (OfClient text ∷ []) ∙ append-nil (server_text parts)
-
-only_server : (text : List ℕ) (parts : List Part) → server_text (parts ++ OfServer text ∷ []) ≡ server_text parts ++
-    text
-only_server text parts = server_text_more parts (OfServer text ∷ [])
-    ∙ ap (λ (t : List ℕ). server_text parts ++ t) (append-nil text)
-
-not_client : (text : List ℕ) (parts : List Part) → client_text (parts ++ OfServer text ∷ []) ≡ client_text parts
-not_client text parts = client_text_more parts (OfServer text ∷ []) ∙ append-nil (client_text parts)
-
--- more is told of the client
-pub told_client : (tapped : Tapped) (lines : BothLines) (new : ClientLines) (answered : Answered) (client server : Sent)
-    (parts : List Part) (text : List ℕ)
-    → AreInOrder tapped answered server parts → HasAnswered answered client server
-    → HasToldClient tapped new answered client (client_text parts ++ text)
-    → HasToldServer tapped lines.server server (server_text parts)
-    → HasToldBoth tapped answered (record { client = new; server = lines.server }) client server
-    (parts ++ OfClient text ∷ [])
-told_client tapped lines new answered client server parts text o h c s = record {
-  in_order = order_more tapped answered server parts (OfClient text ∷ []) o;
-  has_answered = h;
-  of_client = subst (λ (t : List ℕ). HasToldClient tapped new answered client t) (sym (only_client text parts)) c;
-  of_server = subst (λ (t : List ℕ). HasToldServer tapped lines.server server t) (sym (not_server text parts)) s;
-}
-
--- more is told of the server
-pub told_server : (tapped : Tapped) (lines : BothLines) (new : ServerLines) (answered : Answered) (client server : Sent)
-    (parts : List Part) (text : List ℕ)
-    → AreInOrder tapped answered server parts → HasAnswered answered client server
-    → HasToldClient tapped lines.client answered client (client_text parts)
-    → HasToldServer tapped new server (server_text parts ++ text)
-    → HasToldBoth tapped answered (record { client = lines.client; server = new }) client server
-    (parts ++ OfServer text ∷ [])
-told_server tapped lines new answered client server parts text o h c s = record {
-  in_order = order_more tapped answered server parts (OfServer text ∷ []) o;
-  has_answered = h;
-  of_client = subst (λ (t : List ℕ). HasToldClient tapped lines.client answered client t)
-      (sym (not_client text parts)) c;
-  of_server = subst (λ (t : List ℕ). HasToldServer tapped new server t) (sym (only_server text parts)) s;
-}
-
--- ---- a tap
-
--- bytes of the client were read, and this was told
-pub client_stands : (tapped : Tapped) (answered : Answered) (old : Tap) (pipe : PipeValue) (lines : ClientLines)
-    (devices : TapDevices) (left told : Option (List ℕ)) (more text : List ℕ)
-    (t : HasTapped tapped answered old devices)
-    → PassesOn pipe (with_input devices.client left) (t.passed.from_client ++ more)
-    → HasToldClient tapped lines answered (sent_by pipe (t.passed.from_client ++ more))
-    (client_text t.parts ++ text)
-    → Appends devices.lines.new told text
-    → HasTapped tapped answered (record {
-      client = pipe;
-      server = old.server;
-      client_lines = lines;
-      server_lines =
-          old.server_lines;
-    }) (with_client_read devices left told)
-client_stands tapped answered old pipe lines devices left told more text t p c wrote =
-    let client = sent_by old.client t.passed.from_client in
-    let server = sent_by old.server t.passed.from_server in
-    let now = sent_by pipe (t.passed.from_client ++ more) in record {
-      passed = record {
-        from_client = t.passed.from_client ++ more;
-        from_server = t.passed.from_server;
-        client = p;
-        server = t.passed.server;
-      };
-      parts = t.parts ++ OfClient text ∷ [];
-      told = told_client tapped (record { client = old.client_lines; server = old.server_lines }) lines
-          answered now server t.parts text t.told.in_order
-          (answered_same answered (with_bytes client more) now server server refl refl
-          (answered_on answered client server more t.told.has_answered)) c t.told.of_server;
-      lines = subst (λ (x : List ℕ). Appends devices.lines.old told x)
-          (sym (all_text_more t.parts (OfClient text ∷ []) ∙ ap (λ (x : List ℕ). all_text t.parts ++ x)
-          (append-nil text)))
-          (Appends-trans devices.lines.old devices.lines.new told (all_text t.parts) text t.lines wrote);
+      of_client = end_text Client tapped NotYet old.client (Awaited kept) both.client (text_of Client parts) client;
+      is_first = (
+        found.head,
+        f.has,
+        found_line Server tapped both.server.bytes piece found f ∙ append-nil _,
+      );
+      has_waited = end_text Client tapped (After early true) old.client Told both.client
+          (text_of Client parts ++ kept.text)
+          (client_switches tapped old.client kept early (text_of Client parts) client);
     }
 
--- bytes of the server were read, and these parts were told
-pub server_stands : (tapped : Tapped) (answered now : Answered) (old : Tap) (pipe : PipeValue) (lines : BothLines)
-    (devices : TapDevices) (left told : Option (List ℕ)) (more : List ℕ) (next : List Part)
-    (t : HasTapped tapped answered old devices)
-    → PassesOn pipe (with_input devices.server left) (t.passed.from_server ++ more)
-    → HasToldBoth tapped now lines (sent_by old.client t.passed.from_client)
-    (sent_by pipe (t.passed.from_server ++ more)) (t.parts ++ next)
-    → Appends devices.lines.new told (all_text next)
-    → HasTapped tapped now (record {
-      client = old.client;
-      server = pipe;
-      client_lines = lines.client;
-      server_lines =
-          lines.server;
-    }) (with_server_read devices left told)
-server_stands tapped answered now old pipe lines devices left told more next t p both wrote = record {
-  passed = record {
-    from_client = t.passed.from_client;
-    from_server = t.passed.from_server ++ more;
-    client =
-        t.passed.client;
-    server = p;
-  };
-  parts = t.parts ++ next;
-  told = both;
-  lines = subst (λ (x : List ℕ). Appends devices.lines.old told x) (sym (all_text_more t.parts next))
-      (Appends-trans devices.lines.old devices.lines.new told (all_text t.parts) (all_text next) t.lines wrote);
-}
-
--- ---- its other steps
-
--- nothing has passed
-nothing_passes : (a b : Option (List ℕ)) → PassesOn new_pipe
-    (record { input = device_bytes a a; output = device_bytes b b }) []
-nothing_passes a b = record {
-  written = [];
-  has_read = Consumes-nil a;
-  has_written = Appends-nil b;
-  has_passed = record { begins = refl; near = omega arith; count = refl; over = tt };
-  is_read_to = tt;
-}
-
-pub new_stands : (tapped : Tapped) (p q : PipeValue) (client : ClientLines) (server : ServerLines) → p ≡ new_pipe
-    → q ≡ new_pipe → HasToldClient tapped client NotYet new_sent [] → HasToldServer tapped server new_sent []
-    → (a b d e l : Option (List ℕ)) → HasTapped tapped NotYet (record
-    { client = p; server = q; client_lines = client; server_lines = server }) (new_devices a b d e l)
-new_stands tapped p q client server ep eq hc hs a b d e l =
-    subst (λ (x : PipeValue). HasTapped tapped NotYet (record {
-      client = x;
-      server = q;
-      client_lines = client;
-      server_lines =
-          server;
-    }) (new_devices a b d e l)) (sym ep)
-    (subst (λ (x : PipeValue). HasTapped tapped NotYet (record {
-      client = new_pipe;
-      server = x;
-      client_lines = client;
-      server_lines = server;
-    }) (new_devices a b d e l)) (sym eq) (record {
-      passed = record { from_client = []; from_server = []; client = nothing_passes a b; server = nothing_passes d e };
-      parts = [];
-      told = record {
-        has_answered = nothing_has_no_head Response;
-        of_client = hc;
-        of_server = hs;
-        in_order = tt;
-      };
-      lines = Appends-nil l;
-    }))
-
--- one pipe has another stage, which ends the direction as the one before did
-sent_same : (old pipe : PipeValue) (read : List ℕ) → has_ended old.stage ≡ has_ended pipe.stage
-    → sent_by old read ≡ sent_by pipe read
-sent_same old pipe read e = ap (λ (b : Bool). record { bytes = read; ended = b }) e
-
-pub client_pipe_stands : (tapped : Tapped) (answered : Answered) (old : Tap) (pipe : PipeValue) (devices : TapDevices)
-    (held : Option (List ℕ)) (t : HasTapped tapped answered old devices)
-    → has_ended old.client.stage ≡ has_ended pipe.stage
-    → PassesOn pipe (with_output devices.client held) t.passed.from_client
-    → HasTapped tapped answered (record {
-      client = pipe;
-      server = old.server;
-      client_lines = old.client_lines;
-      server_lines =
-          old.server_lines;
-    }) (with_server_written devices held)
-client_pipe_stands tapped answered old pipe devices held t same p = record {
-  passed = record {
-    from_client = t.passed.from_client;
-    from_server = t.passed.from_server;
-    client = p;
-    server =
-        t.passed.server;
-  };
-  parts = t.parts;
-  told = subst (λ (s : Sent). HasToldBoth tapped answered
-      (record { client = old.client_lines; server = old.server_lines }) s (sent_by old.server t.passed.from_server)
-      t.parts) (sent_same old.client pipe t.passed.from_client same) t.told;
-  lines = t.lines;
-}
-
-pub server_pipe_stands : (tapped : Tapped) (answered : Answered) (old : Tap) (pipe : PipeValue) (devices : TapDevices)
-    (held : Option (List ℕ)) (t : HasTapped tapped answered old devices)
-    → has_ended old.server.stage ≡ has_ended pipe.stage
-    → PassesOn pipe (with_output devices.server held) t.passed.from_server
-    → HasTapped tapped answered (record {
-      client = old.client;
-      server = pipe;
-      client_lines = old.client_lines;
-      server_lines =
-          old.server_lines;
-    }) (with_client_written devices held)
-server_pipe_stands tapped answered old pipe devices held t same p = record {
-  passed = record {
-    from_client = t.passed.from_client;
-    from_server = t.passed.from_server;
-    client = t.passed.client;
-    server = p;
-  };
-  parts = t.parts;
-  told = subst (λ (s : Sent). HasToldBoth tapped answered
-      (record { client = old.client_lines; server = old.server_lines }) (sent_by old.client t.passed.from_client) s
-      t.parts) (sent_same old.server pipe t.passed.from_server same) t.told;
-  lines = t.lines;
-}
-
--- the end of a direction was passed on
-pub end_passes : (old pipe : PipeValue) (direction : TapDirection) (read : List ℕ)
-    → next_after old.held old.stage ≡ EndDirection → pipe ≡ with_direction_ended old → PassesOn old direction read
-    → (has_ended old.stage ≡ has_ended pipe.stage) × PassesOn pipe direction read
-end_passes old pipe direction read next is p =
-    let (ended, none) = ended_after old.held old.stage next in
-    let now = with_direction_ended old in (
-      ap (λ (s : PipeStage). has_ended s) ended ∙ ap (λ (x : PipeValue). has_ended x.stage) (sym is),
-      subst (λ (x : PipeValue). PassesOn x direction read) (sym is) (record {
-        written = p.written;
-        has_read = p.has_read;
-        has_written = p.has_written;
-        has_passed = record {
-          begins = p.has_passed.begins;
-          near = p.has_passed.near;
-          count = p.has_passed.count;
-          over
-              = none;
-        };
-        is_read_to = subst (λ (s : PipeStage). IsReadTo s direction.input.new) ended p.is_read_to;
-      }),
-    )
-
--- behind what was told, some lines more were written
-pub some_more : (tapped : Tapped) (answered : Answered) (old : Tap) (devices : TapDevices) (told : Option (List ℕ))
-    (more : List ℕ) (t : HasTapped tapped answered old devices) → Appends devices.lines.new told more
-    → WritesLines (device_bytes devices.lines.old told)
-some_more tapped answered old devices told more t wrote = (
-  all_text t.parts ++ more,
-  Appends-trans devices.lines.old devices.lines.new told (all_text t.parts) more t.lines wrote,
+-- the answer is heard
+response_heard : (tapped : Tapped) (old : TapLines) (room : List ℕ) (lines : FrameLines) (kept : KeptValue)
+    (both : BothSent) (parts : List Part) (piece : List ℕ) (found : HeadFound) (answer : Answer)
+    → LinesStand tapped NotYet old both parts → both.server.ended ≡ false → text_of Server parts ≡ []
+    → SideStands Client tapped NotYet old.client (Awaited kept) both.client (text_of Client parts)
+    → IsFoundWith Server tapped both.server.bytes piece found → IsNewStream Server tapped lines
+    → IsAnswerOfStatus found.head.status answer → (switches : Bool) × AnswersSo switches found.head
+    × LinesStand tapped (After (with_response both (take found.used piece)) switches)
+    (with_stage Server old (side.Frames lines) (released (Awaited kept) answer))
+    (with_response both (take found.used piece))
+    (parts ++ response_parts found.line (released_text (Awaited kept) answer))
+response_heard tapped old room lines kept both parts piece found reply.NotYet s going none client f new is =
+    let (status, response, some) = f.has in absurd (let e : None ≡ Some status = sym is ∙ some in cc)
+response_heard tapped old room lines kept both parts piece found reply.Switches s going none client f new is = (
+  true,
+  is,
+  response_stands tapped old room lines Told true both parts piece found kept.text s going none f new
+      (omega arith, (λ e. e))
+      (client_switches tapped old.client kept (with_response both (take found.used piece)) (text_of Client parts)
+      client)
+      (in_order_now tapped old kept both parts piece found none f client),
 )
-
--- bytes were read, and the output has failed or memory ran out
-pub client_passes : (tapped : Tapped) (answered : Answered) (old : Tap) (pipe : PipeValue) (lines : ClientLines)
-    (devices : TapDevices) (left told : Option (List ℕ)) (more : List ℕ) (t : HasTapped tapped answered old devices)
-    → PassesOn pipe (with_input devices.client left) (t.passed.from_client ++ more)
-    → HasPassedOn (record {
-      client = pipe;
-      server = old.server;
-      client_lines = lines;
-      server_lines = old.server_lines;
-    }) (with_client_read devices left told)
-client_passes tapped answered old pipe lines devices left told more t p =
-    record {
-      from_client = t.passed.from_client ++ more;
-      from_server = t.passed.from_server;
-      client = p;
-      server =
-          t.passed.server;
-    }
-
-pub server_passes : (tapped : Tapped) (answered : Answered) (old : Tap) (pipe : PipeValue) (lines : BothLines)
-    (devices : TapDevices) (left told : Option (List ℕ)) (more : List ℕ) (t : HasTapped tapped answered old devices)
-    → PassesOn pipe (with_input devices.server left) (t.passed.from_server ++ more)
-    → HasPassedOn (record {
-      client = old.client;
-      server = pipe;
-      client_lines = lines.client;
-      server_lines =
-          lines.server;
-    }) (with_server_read devices left told)
-server_passes tapped answered old pipe lines devices left told more t p =
-    record {
-      from_client = t.passed.from_client;
-      from_server = t.passed.from_server ++ more;
-      client = t.passed.client;
-      server = p;
-    }
-
--- ---- equal things that were sent
-
-pub sent_is : (bytes bytes' : List ℕ) (ended ended' : Bool) → bytes ≡ bytes' → ended ≡ ended'
-    → ◌≡◌ {A = Sent} (record { bytes = bytes; ended = ended }) (record { bytes = bytes'; ended = ended' })
-sent_is bytes bytes' ended ended' eb ee =
-    let first : ◌≡◌ {A = Sent} (record { bytes = bytes; ended = ended }) (record { bytes = bytes'; ended = ended }) =
-    ap {B = Sent} (λ (b : List ℕ). record { bytes = b; ended = ended }) eb in
-    let second : ◌≡◌ {A = Sent} (record { bytes = bytes'; ended = ended }) (record { bytes = bytes'; ended = ended' })
-    = ap {B = Sent} (λ (e : Bool). record { bytes = bytes'; ended = e }) ee in
-    first ∙ second
-
-pub client_of_sent : (tapped : Tapped) (lines : ClientLines) (answered : Answered) (sent sent' : Sent)
-    (text text' : List ℕ) → sent ≡ sent' → text ≡ text' → HasToldClient tapped lines answered sent text
-    → HasToldClient tapped lines answered sent' text'
-client_of_sent tapped lines answered sent sent' text text' es et h =
-    subst (λ (t : List ℕ). HasToldClient tapped lines answered sent' t) et
-    (subst (λ (s : Sent). HasToldClient tapped lines answered s text) es h)
-
-pub server_of_sent : (tapped : Tapped) (lines : ServerLines) (sent sent' : Sent) (text text' : List ℕ) → sent ≡ sent'
-    → text ≡ text' → HasToldServer tapped lines sent text → HasToldServer tapped lines sent' text'
-server_of_sent tapped lines sent sent' text text' es et h =
-    subst (λ (t : List ℕ). HasToldServer tapped lines sent' t) et
-    (subst (λ (s : Sent). HasToldServer tapped lines s text) es h)
-
-pub told_of_sent : (tapped : Tapped) (answered : Answered) (lines : BothLines) (client server server' : Sent)
-    (parts : List Part) → server ≡ server' → HasToldBoth tapped answered lines client server parts
-    → HasToldBoth tapped answered lines client server' parts
-told_of_sent tapped answered lines client server server' parts es h = subst
-    (λ (s : Sent). HasToldBoth tapped answered lines client s parts) es h
-
--- parts more
-pub told_more : (tapped : Tapped) (lines : BothLines) (answered : Answered) (client server : Sent) (parts next : List Part)
-    → HasAnswered answered client server
-    → HasToldClient tapped lines.client answered client (client_text parts ++ client_text next)
-    → HasToldServer tapped lines.server server (server_text parts ++ server_text next)
-    → AreInOrder tapped answered server (parts ++ next)
-    → HasToldBoth tapped answered lines client server (parts ++ next)
-told_more tapped lines answered client server parts next h c s o = record {
-  in_order = o;
-  has_answered = h;
-  of_client = subst (λ (t : List ℕ). HasToldClient tapped lines.client answered client t)
-      (sym (client_text_more parts next)) c;
-  of_server = subst (λ (t : List ℕ). HasToldServer tapped lines.server server t) (sym (server_text_more parts next)) s;
-}
-
--- an end that may still send
-pub is_open : (pipe : PipeValue) → next_after pipe.held pipe.stage ≡ Fill → has_ended pipe.stage ≡ false
-is_open pipe next = ap (λ (s : PipeStage). has_ended s) (open_after pipe.held pipe.stage next).0
-
-pub written_twice : (a b d : Option (List ℕ)) (first second both : List ℕ) → Appends a b first → Appends b d second
-    → first ++ second ≡ both → Appends a d both
-written_twice a b d first second both p q e = subst (λ (t : List ℕ). Appends a d t) e
-    (Appends-trans a b d first second p q)
-
--- where nothing is left to be done, all was passed on
-pub all_passes : (pipe : PipeValue) (direction : TapDirection) (read : List ℕ) (p : PassesOn pipe direction read)
-    → next_after pipe.held pipe.stage ≡ Nothing → (p.written ≡ read) × IsAtEnd direction.input.new
-all_passes pipe direction read p over =
-    let (passed, none) = over_after pipe.held pipe.stage over in (
-      sym (p.has_passed.begins ∙ ap (λ (t : List ℕ). p.written ++ t) none ∙ append-nil p.written),
-      subst (λ (s : PipeStage). IsReadTo s direction.input.new) passed p.is_read_to,
+response_heard tapped old room lines kept both parts piece found reply.Refuses s going none client f new is =
+    let early = with_response both (take found.used piece) in (
+      false,
+      is.0,
+      response_stands tapped old room lines Never false both parts piece found [] s going none f new tt
+          (subst (λ (t : List ℕ). SideStands Client tapped (After early false) old.client Never both.client t)
+          (sym (append-nil (text_of Client parts)))
+          (client_refused tapped old.client kept early both.client (text_of Client parts) client)) tt,
     )
+
+-- a server in its head waits, and has not answered
+only_awaited : (tapped : Tapped) (release : Release) (room : List ℕ) (sent : Sent) (text : List ℕ)
+    → SideStands Server tapped NotYet (side.Head room) release sent text
+    → (kept : KeptValue) × (release ≡ Awaited kept)
+only_awaited tapped (Awaited kept) room sent text s = (kept, refl)
+only_awaited tapped Told room sent text (l, none, a) = absurd a
+only_awaited tapped Never room sent text (l, none, a) = absurd a
+
+response_ok : (tapped : Tapped) (answered : Answered) (old : TapLines) (room : List ℕ) (lines : FrameLines)
+    (release : Release) (both : BothSent) (parts : List Part) (piece : List ℕ) (found : HeadFound) (answer : Answer)
+    (output : Device) (used : ℕ)
+    → LinesStand tapped answered old both parts → both.server.ended ≡ false → old.server ≡ side.Head room
+    → SideStands Server tapped answered (side.Head room) old.release both.server (text_of Server parts)
+    → IsFoundWith Server tapped both.server.bytes piece found → IsNewStream Server tapped lines
+    → IsAnswerOfStatus found.head.status answer
+    → IsHeadTold found answer (record { old = old.release; new = release }) output (Ok used)
+    → IsSentOn Server tapped answered old (with_stage Server old (side.Frames lines) release) both parts piece output
+    used
+response_ok tapped (After early switches) old room lines release both parts piece found answer output used s going at
+    (l, none, a) f new is t = absurd (l.1 s.knows.0 s.knows.1)
+response_ok tapped NotYet old room lines release both parts piece found answer output used s going at own f new is
+    (works, same, now, wrote) =
+    let (kept, awaited) = only_awaited tapped old.release room both.server (text_of Server parts) own in
+    let client = subst (λ (r : Release). SideStands Client tapped NotYet old.client r both.client
+    (text_of Client parts))
+    awaited s.of_client in
+    let (switches, answers, stands) = response_heard tapped old room lines kept both parts piece found answer s going
+    own.1 client f new is in
+    let waited = released_text (Awaited kept) answer in
+    let early = with_response both (take found.used piece) in
+    let text_is : found.line ++ released_text old.release answer ≡ found.line ++ (waited ++ []) =
+    ap (λ (t : List ℕ). found.line ++ t) (ap (λ (r : Release). released_text r answer) awaited
+    ∙ sym (append-nil waited)) in
+    subst (λ n. IsSentOn Server tapped NotYet old (with_stage Server old (side.Frames lines) release) both parts piece
+    output n) (sym same) (record {
+      more = response_parts found.line waited;
+      wrote = subst (λ (t : List ℕ). HasWritten t output) text_is wrote;
+      works = works;
+      few = f.used;
+      next = After early switches;
+      answers = inr (record {
+        head = found.head;
+        switches = switches;
+        is_server = refl;
+        before = refl;
+        now = refl;
+        still_open = going;
+        has = f.has;
+        whole = f.whole;
+        answers = answers;
+      });
+      same = λ stood. absurd (let e : true ≡ false = sym stood ∙ ap (λ (x : SideStage). is_behind x) at in cc);
+      whole = λ stood. absurd (let e : true ≡ false = sym stood ∙ ap (λ (x : SideStage). is_behind x) at in cc);
+      behind = λ short. refl;
+      stands = subst (λ (r : Release). LinesStand tapped (After early switches)
+          (with_stage Server old (side.Frames lines) r) early (parts ++ response_parts found.line waited))
+          (sym (now ∙ ap (λ (r : Release). released r answer) awaited)) stands;
+    })
+
+response_err : (tapped : Tapped) (answered : Answered) (old : TapLines) (room : List ℕ) (lines : FrameLines)
+    (release : Release) (both : BothSent) (parts : List Part) (piece : List ℕ) (found : HeadFound) (answer : Answer)
+    (output : Device) (fault : ShowFault)
+    → LinesStand tapped answered old both parts → both.server.ended ≡ false → old.server ≡ side.Head room
+    → SideStands Server tapped answered (side.Head room) old.release both.server (text_of Server parts)
+    → IsFoundWith Server tapped both.server.bytes piece found → IsNewStream Server tapped lines
+    → IsAnswerOfStatus found.head.status answer
+    → IsHeadTold found answer (record { old = old.release; new = release }) output (Err fault)
+    → IsSentInPart Server tapped answered old both parts piece output fault
+response_err tapped (After early switches) old room lines release both parts piece found answer output fault s going at
+    (l, none, a) f new is t = absurd (l.1 s.knows.0 s.knows.1)
+response_err tapped NotYet old room lines release both parts piece found answer output fault s going at own f new is
+    (failed, write, (front, rest, all, wrote)) =
+    let (kept, awaited) = only_awaited tapped old.release room both.server (text_of Server parts) own in
+    let client = subst (λ (r : Release). SideStands Client tapped NotYet old.client r both.client
+    (text_of Client parts))
+    awaited s.of_client in
+    let (switches, answers, stands) = response_heard tapped old room lines kept both parts piece found answer s going
+    own.1 client f new is in
+    let waited = released_text (Awaited kept) answer in
+    let early = with_response both (take found.used piece) in
+    let text_is : found.line ++ (waited ++ []) ≡ found.line ++ released_text old.release answer =
+    ap (λ (t : List ℕ). found.line ++ t) (append-nil waited
+    ∙ sym (ap (λ (r : Release). released_text r answer) awaited)) in record {
+      more = OfEnd Server front ∷ [];
+      wrote = subst (λ (t : List ℕ). HasWritten t output) (sym (append-nil front)) wrote;
+      failed = failed ∙ sym (ap is_of_a_write write);
+      fair = subst (λ (x : ShowFault). MayEndBy tapped.style x) (sym write) tt;
+      front = take found.used piece;
+      later = drop found.used piece;
+      cut = front_of_piece found.used piece;
+      next = After early switches;
+      answers = inr (record {
+        head = found.head;
+        switches = switches;
+        is_server = refl;
+        before = refl;
+        now = refl;
+        still_open = going;
+        has = f.has;
+        whole = f.whole;
+        answers = answers;
+      });
+      same = λ stood. absurd (let e : true ≡ false = sym stood ∙ ap (λ (x : SideStage). is_behind x) at in cc);
+      due = parts ++ response_parts found.line waited;
+      rest = rest;
+      texts = texts_of tapped (After early switches)
+          (with_stage Server old (side.Frames lines) (released (Awaited kept) answer)) early
+          (parts ++ response_parts found.line waited) stands;
+      begins = due_behind parts (response_parts found.line waited) (OfEnd Server front ∷ []) rest
+          (text_is ∙ all ∙ ap (λ (t : List ℕ). t ++ rest) (sym (append-nil front)));
+    }
+
+-- ---- a piece of any end
+
+pub own_of : (role : Role) (tapped : Tapped) (answered : Answered) (lines : TapLines) (both : BothSent)
+    (parts : List Part) → LinesStand tapped answered lines both parts
+    → SideStands role tapped answered (stage_at role lines) lines.release (sent_of role both) (text_of role parts)
+own_of Client tapped answered lines both parts s = s.of_client
+own_of Server tapped answered lines both parts s = s.of_server
+
+pub other_of : (role : Role) (tapped : Tapped) (answered : Answered) (lines : TapLines) (both : BothSent)
+    (parts : List Part) → LinesStand tapped answered lines both parts
+    → SideStands (other_end role) tapped answered (stage_at (other_end role) lines) lines.release
+    (sent_of (other_end role) both) (text_of (other_end role) parts)
+other_of Client tapped answered lines both parts s = s.of_server
+other_of Server tapped answered lines both parts s = s.of_client
+
+head_ok : (role : Role) (tapped : Tapped) (answered : Answered) (old : TapLines) (room : List ℕ) (stage : SideStage)
+    (release : Release) (both : BothSent) (parts : List Part) (piece : List ℕ) (output : Device) (used : ℕ)
+    → LinesStand tapped answered old both parts → (sent_of role both).ended ≡ false
+    → stage_at role old ≡ side.Head room
+    → SideStands role tapped answered (side.Head room) old.release (sent_of role both) (text_of role parts)
+    → FindsHead role tapped (sent_of role both).bytes stage (record { old = old.release; new = release }) piece output
+    (Ok used)
+    → IsSentOn role tapped answered old (with_stage role old stage release) both parts piece output used
+head_ok Client tapped answered old room stage release both parts piece output used s going at own f =
+    subst (λ (x : SideStage). IsSentOn Client tapped answered old (with_stage Client old x release) both parts piece
+    output used) (sym f.stage)
+    (request_ok tapped answered old room f.lines release both parts piece f.found f.answer output used s going at own
+    f.is_found f.begun f.answers f.told)
+head_ok Server tapped answered old room stage release both parts piece output used s going at own f =
+    subst (λ (x : SideStage). IsSentOn Server tapped answered old (with_stage Server old x release) both parts piece
+    output used) (sym f.stage)
+    (response_ok tapped answered old room f.lines release both parts piece f.found f.answer output used s going at own
+    f.is_found f.begun f.answers f.told)
+
+head_err : (role : Role) (tapped : Tapped) (answered : Answered) (old : TapLines) (room : List ℕ) (stage : SideStage)
+    (release : Release) (both : BothSent) (parts : List Part) (piece : List ℕ) (output : Device) (fault : ShowFault)
+    → LinesStand tapped answered old both parts → (sent_of role both).ended ≡ false
+    → stage_at role old ≡ side.Head room
+    → SideStands role tapped answered (side.Head room) old.release (sent_of role both) (text_of role parts)
+    → FindsHead role tapped (sent_of role both).bytes stage (record { old = old.release; new = release }) piece output
+    (Err fault)
+    → IsSentInPart role tapped answered old both parts piece output fault
+head_err Client tapped answered old room stage release both parts piece output fault s going at own f =
+    request_err tapped answered old room f.lines release both parts piece f.found f.answer output fault s going own
+    f.is_found f.begun f.answers f.told
+head_err Server tapped answered old room stage release both parts piece output fault s going at own f =
+    response_err tapped answered old room f.lines release both parts piece f.found f.answer output fault s going at own
+    f.is_found f.begun f.answers f.told
+
+some_ok : (role : Role) (tapped : Tapped) (answered : Answered) (old : TapLines) (was stage : SideStage)
+    (release : Release) (both : BothSent) (parts : List Part) (piece : List ℕ) (output : Device) (used : ℕ)
+    → LinesStand tapped answered old both parts → (sent_of role both).ended ≡ false → stage_at role old ≡ was
+    → SideStands role tapped answered was old.release (sent_of role both) (text_of role parts)
+    → TellsSome role tapped was stage (record { old = old.release; new = release }) piece output (Ok used)
+    → IsSentOn role tapped answered old (with_stage role old stage release) both parts piece output used
+some_ok role tapped answered old (side.Head room) stage release both parts piece output used s going at own t =
+    elim (t (sent_of role both).bytes own.0) [
+      | inl looks ↦ let (works, whole, wrote, same, (now, is, looks_on)) = looks in
+          subst (λ (r : Release). IsSentOn role tapped answered old
+          (with_stage role old stage r) both parts piece output
+          used) (sym same)
+          (subst (λ (x : SideStage). IsSentOn role tapped answered old (with_stage role old x old.release) both parts
+          piece output used) (sym is)
+          (looks_ok role tapped answered old room now both parts piece output used s at own
+          (other_of role tapped answered old both parts s) whole works wrote looks_on))
+      | inr found ↦ head_ok role tapped answered old room stage release both parts piece output used s going at own
+          found
+    ]
+some_ok role tapped answered old (side.Frames lines) stage release both parts piece output used s going at own
+    (after, is, (whole, (alike, t))) =
+    subst (λ (x : SideStage). IsSentOn role tapped answered old (with_stage role old x release) both parts piece output
+    used) (sym is)
+    (frames_ok role tapped answered old lines after old.release release both parts piece output used s going whole alike
+    own (other_of role tapped answered old both parts s) t)
+
+some_err : (role : Role) (tapped : Tapped) (answered : Answered) (old : TapLines) (was stage : SideStage)
+    (release : Release) (both : BothSent) (parts : List Part) (piece : List ℕ) (output : Device) (fault : ShowFault)
+    → LinesStand tapped answered old both parts → (sent_of role both).ended ≡ false → stage_at role old ≡ was
+    → SideStands role tapped answered was old.release (sent_of role both) (text_of role parts)
+    → TellsSome role tapped was stage (record { old = old.release; new = release }) piece output (Err fault)
+    → IsSentInPart role tapped answered old both parts piece output fault
+some_err role tapped answered old (side.Head room) stage release both parts piece output fault s going at own t =
+    elim (t (sent_of role both).bytes own.0) [
+      | inl looks ↦ absurd looks
+      | inr found ↦ head_err role tapped answered old room stage release both parts piece output fault s going at own
+          found
+    ]
+some_err role tapped answered old (side.Frames lines) stage release both parts piece output fault s going at own
+    (after, is, (alike, t)) =
+    frames_err role tapped answered old lines after old.release release both parts piece output fault s going alike own
+    (end_text (other_end role) tapped answered (stage_at (other_end role) old) old.release
+    (sent_of (other_end role) both) (text_of (other_end role) parts) (other_of role tapped answered old both parts s)) t
+
+-- what one call tells
+pub sent_ok : (role : Role) (tapped : Tapped) (answered : Answered) (old new : TapLines) (both : BothSent)
+    (parts : List Part) (piece : List ℕ) (output : Device) (used : ℕ)
+    → LinesStand tapped answered old both parts → (sent_of role both).ended ≡ false
+    → SendsTo role old new piece output (Ok used)
+    → IsSentOn role tapped answered old new both parts piece output used
+sent_ok role tapped answered old new both parts piece output used s going (stage, release, is, t) =
+    subst (λ (x : TapLines). IsSentOn role tapped answered old x both parts piece output used) (sym is)
+    (some_ok role tapped answered old (stage_at role old) stage release both parts piece output used s going refl
+    (own_of role tapped answered old both parts s)
+    (subst (λ (x : Tapped). TellsSome role x (stage_at role old) stage
+    (record { old = old.release; new = release }) piece output (Ok used)) s.tapped_is t))
+
+pub sent_err : (role : Role) (tapped : Tapped) (answered : Answered) (old new : TapLines) (both : BothSent)
+    (parts : List Part) (piece : List ℕ) (output : Device) (fault : ShowFault)
+    → LinesStand tapped answered old both parts → (sent_of role both).ended ≡ false
+    → SendsTo role old new piece output (Err fault)
+    → IsSentInPart role tapped answered old both parts piece output fault
+sent_err role tapped answered old new both parts piece output fault s going (stage, release, is, t) =
+    some_err role tapped answered old (stage_at role old) stage release both parts piece output fault s going refl
+    (own_of role tapped answered old both parts s)
+    (subst (λ (x : Tapped). TellsSome role x (stage_at role old) stage
+    (record { old = old.release; new = release }) piece output (Err fault)) s.tapped_is t)

@@ -3,8 +3,8 @@ use Rattle.std.specs.Prelude.{◌≡◌, ℕ, ◌≤◌, List, length, take, dro
 use Rattle.httparse.specs.Grammar.{RequestHead, ResponseHead, print_request, print_response, ReadsRequest}
 use Rattle.httparse.specs.Grammar.{ReadsResponse}
 use Rattle.httparse.specs.Grammar.{status_code}
-use Rattle.ws_tap.specs.declared.heads.HeadKind.{HeadKind}
-use Rattle.ws_tap.specs.declared.heads.HeadKind.TheVariants.{Request, Response}
+use Rattle.ws_wire.specs.declared.role.Role.{Role}
+use Rattle.ws_wire.specs.declared.role.Role.TheVariants.{Client, Server}
 use Rattle.ws_tap.specs.declared.heads.Head.{Head}
 
 -- a head is looked for in so many bytes, our choice
@@ -34,11 +34,11 @@ pub record HasResponse (bytes : List ℕ) (len status : ℕ) : Type 0 where
   pub headers : length head.fields ≤ header_limit
   pub status_is : status ≡ status_code head
 
--- a direction that sends these bytes begins with this head
-abbrev pub HasHead : HeadKind → List ℕ → Head → Type 0
-HasHead Request bytes head = HasRequest bytes head.len × (head.status ≡ None)
-HasHead Response bytes head = (status : ℕ) × HasResponse bytes head.len status × (head.status ≡ Some status)
+-- an end that sends these bytes begins with this head: a client with a request, a server with a response
+abbrev pub HasHead : Role → List ℕ → Head → Type 0
+HasHead Client bytes head = HasRequest bytes head.len × (head.status ≡ None)
+HasHead Server bytes head = (status : ℕ) × HasResponse bytes head.len status × (head.status ≡ Some status)
 
 -- it has not sent one whole
-abbrev pub HasNoHead : HeadKind → List ℕ → Type 0
-HasNoHead kind bytes = (head : Head) → HasHead kind bytes head → ⊥
+abbrev pub HasNoHead : Role → List ℕ → Type 0
+HasNoHead role bytes = (head : Head) → HasHead role bytes head → ⊥

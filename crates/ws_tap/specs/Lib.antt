@@ -1,8 +1,9 @@
+pub mod Told
 pub mod Heads
 pub mod Texts
-pub mod PipeValues
 pub mod Piping
 pub mod KeptValues
+pub mod Telling
 pub mod Standing
 pub mod Tapping
 pub mod Running

@@ -1,81 +1,78 @@
--- What a pipe passes on: exactly the bytes that it was given, in order.
-use Rattle.std.specs.Prelude.{◌≡◌, ℕ, ◌^◌, ◌<◌, ◌≤◌, List, [], ◌∷◌, ◌++◌, length, Option}
-use Rattle.std.specs.Io.KnownBytes.{Appends, Consumes, IsAtEnd}
+-- A pipe from one end to the other: what it holds, and what each call makes of it.
+use Rattle.std.specs.Prelude.{◌≡◌, ℕ, ◌+◌, ◌-◌, ◌^◌, ◌≤◌, min, Bool, true, false, List, [], ◌∷◌, ◌++◌, length, drop}
 use Rattle.ws_tap.specs.declared.pipe.PipeStage.{PipeStage}
 use Rattle.ws_tap.specs.declared.pipe.PipeStage.TheVariants as stage
-use Rattle.ws_tap.specs.declared.pipe.Next.{Next}
-use Rattle.ws_tap.specs.declared.pipe.Next.TheVariants.{Fill, Drain, EndDirection, Nothing}
-use Rattle.ws_tap.specs.declared.pipe.Filled.{Filled}
-use Rattle.ws_tap.specs.declared.pipe.Filled.TheVariants as filled
-use Rattle.ws_tap.specs.declared.pipe.Drained.{Drained}
-use Rattle.ws_tap.specs.declared.pipe.Drained.TheVariants as drained
-use Rattle.ws_tap.specs.PipeValues.{PipeValue}
+use Rattle.ws_tap.specs.Told.{Passage}
 
--- a pipe into which nothing was read
+-- the bytes that came and were not taken yet, how many came in all, and how far the direction has come
+pub record PipeValue : Type 0 where
+  pub held : List ℕ
+  pub total : ℕ
+  pub stage : PipeStage
+
+-- ---- what each call makes of it
+
+-- nothing has come
 abbrev pub new_pipe : PipeValue
-new_pipe = record { piece = []; held = []; total = 0; stage = stage.Open }
+new_pipe = record { held = []; total = 0; stage = stage.Open }
 
--- where nothing is held, the next step by how far the direction has come
-abbrev pub next_at : PipeStage → Next
-next_at stage.Open = Fill
-next_at stage.Ended = EndDirection
-next_at stage.Passed = Nothing
+-- more may come where it holds nothing: as many bytes as it has room for, and as 64 bits can count
+abbrev pub room_at : List ℕ → PipeStage → ℕ → ℕ
+room_at [] stage.Open total = min ((2 ^ 64 - 1) - total) 65536
+room_at [] stage.Ended total = 0
+room_at [] stage.Passed total = 0
+room_at (byte ∷ held) stage total = 0
 
--- what is held is written before anything is read; the other direction is ended behind all that was read
-abbrev pub next_after : List ℕ → PipeStage → Next
-next_after [] stage = next_at stage
-next_after (byte ∷ held) stage = Drain
+abbrev pub room_in : PipeValue → ℕ
+room_in pipe = room_at pipe.held pipe.stage pipe.total
 
-abbrev pub next_of : PipeValue → Next
-next_of pipe = next_after pipe.held pipe.stage
+-- these bytes came; or the end of the direction did
+abbrev pub with_piece : PipeValue → List ℕ → PipeValue
+with_piece pipe piece = record { held = piece; total = pipe.total + length piece; stage = pipe.stage }
 
--- the end of its direction was passed on
+abbrev pub with_end_come : PipeValue → PipeValue
+with_end_come pipe = record pipe { stage = stage.Ended }
+
+-- so many bytes were taken; or the end was passed on
+abbrev pub with_bytes_taken : PipeValue → ℕ → PipeValue
+with_bytes_taken pipe count = record pipe { held = drop count pipe.held }
+
 abbrev pub with_direction_ended : PipeValue → PipeValue
 with_direction_ended pipe = record pipe { stage = stage.Passed }
 
--- a direction whose end was passed on holds nothing
-abbrev pub IsEmptyAt : PipeStage → List ℕ → Type 0
-IsEmptyAt stage.Open held = Unit {0}
-IsEmptyAt stage.Ended held = Unit {0}
-IsEmptyAt stage.Passed held = held ≡ []
+-- the end is to be passed on where it came and nothing is held
+abbrev pub wants_end_at : List ℕ → PipeStage → Bool
+wants_end_at [] stage.Open = false
+wants_end_at [] stage.Ended = true
+wants_end_at [] stage.Passed = false
+wants_end_at (byte ∷ held) stage = false
 
--- these bytes were read from the one end, and these written to the other: a beginning of them, of which at most 65536
--- are missing, and those are held; none where the end of the direction was passed on
-pub record HasPassed (pipe : PipeValue) (read written : List ℕ) : Type 0 where
-  pub begins : read ≡ written ++ pipe.held
+abbrev pub wants_end_of : PipeValue → Bool
+wants_end_of pipe = wants_end_at pipe.held pipe.stage
+
+-- the end that sends has ended its direction; and that was passed on
+abbrev pub has_ended : PipeStage → Bool
+has_ended stage.Open = false
+has_ended stage.Ended = true
+has_ended stage.Passed = true
+
+abbrev pub is_passed : PipeStage → Bool
+is_passed stage.Open = false
+is_passed stage.Ended = false
+is_passed stage.Passed = true
+
+-- ---- what happened to its direction
+
+-- how far a direction has come, by whether its end has ended it, and whether that was passed on
+abbrev pub stage_of : Bool → Bool → PipeStage
+stage_of false passed = stage.Open
+stage_of true false = stage.Ended
+stage_of true true = stage.Passed
+
+-- a pipe stands so behind what happened to its direction: it holds what came and was not taken
+pub record IsPipeOf (pipe : PipeValue) (p : Passage) : Type 0 where
+  pub begins : p.came ≡ p.taken ++ pipe.held
   pub near : length pipe.held ≤ 65536
-  pub count : pipe.total ≡ length read
-  pub over : IsEmptyAt pipe.stage pipe.held
-
--- a pipe before and after a call
-pub record PipeStep : Type 0 where
-  pub old : PipeValue
-  pub new : PipeValue
-
--- what came of a read: bytes, which are held, and their number with those before fits 64 bits; or the end of the
--- stream; or nothing
-abbrev pub IsFilled : PipeStep → Option (List ℕ) → List ℕ → Filled → Type 0
-IsFilled step left more filled.Came = (0 < length more) × (step.new.piece ≡ more) × (step.new.stage ≡ stage.Open)
-    × (step.new.total < 2 ^ 64)
-IsFilled step left more filled.AtEnd = (more ≡ []) × IsAtEnd left × (step.new.stage ≡ stage.Ended)
-IsFilled step left more filled.Waits = (more ≡ []) × (step.new.stage ≡ stage.Open)
-IsFilled step left more filled.Failed = (more ≡ []) × (step.new.stage ≡ stage.Open)
-
--- some bytes were read, and the pipe holds them
-abbrev pub FillsPipe : PipeStep → Option (List ℕ) → Option (List ℕ) → Filled → Type 0
-FillsPipe step old new result = (more : List ℕ) × Consumes old new more × IsFilled step new more result
-    × ((read : List ℕ) (written : List ℕ) → HasPassed step.old read written
-    → HasPassed step.new (read ++ more) written)
-
--- what came of a write: some of the bytes that were held were taken; or none
-abbrev pub IsDrained : List ℕ → Drained → Type 0
-IsDrained more drained.Took = 0 < length more
-IsDrained more drained.Waits = more ≡ []
-IsDrained more drained.Failed = more ≡ []
-
--- some bytes were written, and the pipe doesn't hold them any more
-abbrev pub DrainsPipe : PipeStep → Option (List ℕ) → Option (List ℕ) → Drained → Type 0
-DrainsPipe step old new result = (more : List ℕ) × Appends old new more × IsDrained more result
-    × (step.new.stage ≡ step.old.stage)
-    × ((read : List ℕ) (written : List ℕ) → HasPassed step.old read written
-    → HasPassed step.new read (written ++ more))
+  pub count : pipe.total ≡ length p.came
+  pub stage : pipe.stage ≡ stage_of p.ended p.passed
+  pub over : p.passed ≡ true → (p.ended ≡ true) × (pipe.held ≡ [])

@@ -4,10 +4,11 @@ ghost use Rattle.std.specs.Prelude.{◌≡◌, ◌≤◌, ◌+◌, [], ◌++◌,
 ghost use Rattle.ws_tap.specs.Texts.{head_line, shown_byte, source_at, side_mark};
 
 use crate::first_line::first_line;
-use crate::heads::{HeadKind, MAX_HEAD};
-use crate::tapped::Tapped;
+use crate::heads::MAX_HEAD;
+use crate::tapped::TappedEnd;
 use itoa::Buffer;
 use std::marker::Model;
+use ws_wire::Role;
 
 /// How many bytes the line of a head has at most: its own, a number, a mark and a line end.
 const MAX_LINE: usize = MAX_HEAD + 32;
@@ -30,15 +31,15 @@ impl Model for HeadLine {
 }
 
 impl HeadLine {
-    /// The line of this head, in this connection.
-    pub(crate) fn of(kind: HeadKind, tapped: Tapped, head: &[u8]) -> HeadLine
+    /// The line of this head of an end.
+    pub(crate) fn of(end: TappedEnd, head: &[u8]) -> HeadLine
         requires { length head.now ≤ 8192 }
-        ensures { result ≡ head_line (source_at kind tapped) head.now }
+        ensures { result ≡ head_line (source_at end.role end.tapped) head.now }
     {
         let mut line = HeadLine::new();
         let mut digits = Buffer::new();
-        line.push(digits.format(tapped.number).as_bytes());
-        line.push(mark_of(kind));
+        line.push(digits.format(end.tapped.number).as_bytes());
+        line.push(mark_of(end.role));
         line.push_shown(first_line(head));
         line.push(b"\n");
         line
@@ -95,13 +96,13 @@ fn shown_byte(byte: u8) -> u8
     }
 }
 
-/// The mark of the end that sends such a head.
-fn mark_of(kind: HeadKind) -> &'static [u8]
-    ensures mark { result.now ≡ side_mark kind }
+/// The mark of an end.
+fn mark_of(role: Role) -> &'static [u8]
+    ensures mark { result.now ≡ side_mark role }
     ensures short { length result.now ≤ 3 }
 {
-    match kind {
-        HeadKind::Request => b" > ",
-        HeadKind::Response => b" < ",
+    match role {
+        Role::Client => b" > ",
+        Role::Server => b" < ",
     }
 }

@@ -1,7 +1,7 @@
 //! Lines that wait to be told, as far as they fit.
 
 ghost use Rattle.std.specs.Prelude.{◌≡◌, ◌≤◌, [], length, false};
-ghost use Rattle.ws_tap.specs.Standing.{kept_after, nothing_kept};
+ghost use Rattle.ws_tap.specs.Telling.{kept_after, nothing_kept};
 
 use std::marker::Model;
 

@@ -1,33 +1,32 @@
 //! Bytes on their way from one end of a tapped connection to the other.
 
-ghost use Rattle.std.specs.Prelude.{◌≡◌, ◌≢◌, ◌+◌, ◌<◌, ◌≤◌, ◌^◌, ℕ, List, [], length, IfSome, is_err};
-ghost use Rattle.std.specs.Io.KnownBytes.{IsAtEnd, Keeps};
-ghost use Rattle.ws_tap.specs.Piping.{HasPassed, FillsPipe, DrainsPipe, next_of, new_pipe, with_direction_ended};
-ghost use Rattle.ws_tap.specs.Tapping.{has_ended};
+ghost use Rattle.std.specs.Prelude.{◌≡◌, ◌<◌, ◌≤◌, length};
+ghost use Rattle.ws_tap.specs.Piping.{PipeValue};
+ghost use Rattle.ws_tap.specs.Piping.{has_ended, is_passed, new_pipe, room_in, wants_end_of, with_direction_ended};
+ghost use Rattle.ws_tap.specs.Piping.{with_end_come, with_piece, with_bytes_taken};
 
-use std::io::{ErrorKind, Read, Write};
 use std::marker::Model;
 
 /// How many bytes a pipe holds.
 const PIPE: usize = 65536;
 
-/// Bytes that were read from one end and are to be written to the other. It is filled where it is empty, so a peer that
-/// takes no bytes stops the reading from the other.
+/// Bytes that came from one end and are to be written to the other. It takes more only where it is empty, so an end
+/// that takes no bytes stops the reading from the other.
 #[derive(Drop)]
-pub struct Pipe {
-    /// The bytes that were read last.
+pub(crate) struct Pipe {
+    /// The bytes that came last.
     bytes: [u8; PIPE],
     len: usize,
-    /// How many of them were written.
-    written: usize,
-    /// How many bytes were read in all.
+    /// How many of them were taken by the other end.
+    taken: usize,
+    /// How many bytes came in all.
     total: u64,
     stage: PipeStage,
 }
 
 /// How far a direction has come.
 #[derive(Clone, Copy)]
-pub enum PipeStage {
+pub(crate) enum PipeStage {
     /// More may come.
     Open,
     /// The end that sends has ended its direction, and the other is to be told.
@@ -36,159 +35,119 @@ pub enum PipeStage {
     Passed,
 }
 
-/// What is to be done next for a direction.
-#[derive(Clone, Copy)]
-pub enum Next {
-    /// Bytes are to be read.
-    Fill,
-    /// Bytes are to be written.
-    Drain,
-    /// All that was read is written, and the direction to the other end is to be ended.
-    EndDirection,
-    /// Nothing: all was passed on.
-    Nothing,
-}
-
-/// What came of a read.
-#[derive(Clone, Copy)]
-pub enum Filled {
-    /// Bytes came.
-    Came,
-    /// The end of the stream did.
-    AtEnd,
-    /// Nothing came yet.
-    Waits,
-    /// The read failed.
-    Failed,
-}
-
-/// What came of a write.
-#[derive(Clone, Copy)]
-pub enum Drained {
-    /// Bytes were taken.
-    Took,
-    /// None can be taken yet.
-    Waits,
-    /// The write failed.
-    Failed,
-}
-
 impl Model for Pipe {
     ghost use Rattle.std.specs.Prelude.{take, drop, ◌≤◌};
-    ghost use Rattle.ws_tap.specs.PipeValues.{PipeValue};
+    ghost use Rattle.ws_tap.specs.Piping.{PipeValue};
 
     ghost Value = { PipeValue };
 
     ghost view = { λ pipe. record {
-      piece = take pipe.len pipe.bytes;
-      held = drop pipe.written (take pipe.len pipe.bytes);
+      held = drop pipe.taken (take pipe.len pipe.bytes);
       total = pipe.total;
       stage = pipe.stage;
     } };
 
-    ghost invariant = { λ pipe. (pipe.len ≤ 65536) × (pipe.written ≤ pipe.len) };
+    ghost invariant = { λ pipe. (pipe.len ≤ 65536) × (pipe.taken ≤ pipe.len) };
 }
 
 impl Pipe {
-    /// Nothing was read yet.
-    pub fn new() -> Pipe
+    /// Nothing has come yet.
+    pub(crate) fn new() -> Pipe
         ensures { result ≡ new_pipe }
     {
         Pipe {
             bytes: [0; PIPE],
             len: 0,
-            written: 0,
+            taken: 0,
             total: 0,
             stage: PipeStage::Open,
         }
     }
 
-    /// What is to be done next.
-    pub fn next(&self) -> Next
-        ensures next { result ≡ next_of self.now }
+    /// How many bytes may come now, 0 where none may.
+    pub(crate) fn room(&self) -> usize
+        ensures room { result ≡ room_in self.now }
     {
-        if self.written < self.len {
-            return Next::Drain;
+        if self.taken < self.len {
+            return 0;
         }
         match self.stage {
-            PipeStage::Open => Next::Fill,
-            PipeStage::Ended => Next::EndDirection,
-            PipeStage::Passed => Next::Nothing,
+            PipeStage::Open => (u64::MAX - self.total).min(PIPE as u64) as usize,
+            PipeStage::Ended | PipeStage::Passed => 0,
         }
     }
 
-    /// Whether the end that sends has ended the direction.
-    pub fn has_ended(&self) -> bool
-        ensures { result ≡ has_ended self.now.stage }
+    /// These bytes came.
+    pub(crate) fn came(&mut self, piece: &[u8])
+        requires some { 0 < length piece.now }
+        requires fits { length piece.now ≤ room_in self.old }
+        ensures came { self.new ≡ with_piece self.old piece.now }
+    {
+        self.bytes[..piece.len()].copy_from_slice(piece);
+        self.len = piece.len();
+        self.taken = 0;
+        self.total += piece.len() as u64;
+    }
+
+    /// The end that sends has ended its direction.
+    pub(crate) fn ended(&mut self)
+        ensures ended { self.new ≡ with_end_come self.old }
+    {
+        self.stage = PipeStage::Ended;
+    }
+
+    /// The bytes that are to be written to the other end.
+    pub(crate) fn held(&self) -> &[u8]
+        ensures held { result.now ≡ self.now.held }
+    {
+        &self.bytes[self.taken..self.len]
+    }
+
+    /// The other end took so many of them.
+    pub(crate) fn took(&mut self, count: usize)
+        requires held { count ≤ length self.old.held }
+        ensures taken { self.new ≡ with_bytes_taken self.old count }
+    {
+        self.taken += count;
+    }
+
+    /// Whether the direction to the other end is to be ended: all that came was taken, and nothing more comes.
+    pub(crate) fn wants_end(&self) -> bool
+        ensures wanted { result ≡ wants_end_of self.now }
+    {
+        if self.taken < self.len {
+            return false;
+        }
+        match self.stage {
+            PipeStage::Ended => true,
+            PipeStage::Open | PipeStage::Passed => false,
+        }
+    }
+
+    /// The direction to the other end was ended.
+    pub(crate) fn direction_ended(&mut self)
+        ensures ended { self.new ≡ with_direction_ended self.old }
+    {
+        self.stage = PipeStage::Passed;
+    }
+
+    /// Whether the end that sends has ended its direction.
+    pub(crate) fn has_ended(&self) -> bool
+        ensures ended { result ≡ has_ended self.now.stage }
     {
         match self.stage {
             PipeStage::Open => false,
-            PipeStage::Ended => true,
+            PipeStage::Ended | PipeStage::Passed => true,
+        }
+    }
+
+    /// Whether that was passed on, behind all that came.
+    pub(crate) fn is_passed(&self) -> bool
+        ensures passed { result ≡ is_passed self.now.stage }
+    {
+        match self.stage {
             PipeStage::Passed => true,
+            PipeStage::Open | PipeStage::Ended => false,
         }
-    }
-
-    /// The bytes that were read last.
-    pub fn piece(&self) -> &[u8]
-        ensures { result.now ≡ self.now.piece }
-    {
-        &self.bytes[..self.len]
-    }
-
-    /// Reads once, where that is next. An error of the kind `WouldBlock` is no failure: nothing came yet.
-    pub fn fill<R: Read>(&mut self, reader: &mut R) -> Filled
-        requires { next_of self.old ≡ Next.Fill }
-        ensures { FillsPipe (record { old = self.old; new = self.new })
-            (R.remaining reader.old) (R.remaining reader.new) result }
-    {
-        self.len = 0;
-        self.written = 0;
-        let want = (u64::MAX - self.total).min(PIPE as u64) as usize;
-        if want == 0 {
-            return Filled::Failed;
-        }
-        match reader.read(&mut self.bytes[..want]) {
-            Ok(0) => {
-                self.stage = PipeStage::Ended;
-                Filled::AtEnd
-            }
-            Ok(count) => {
-                self.len = count;
-                self.total += count as u64;
-                Filled::Came
-            }
-            Err(error) => match error.kind() {
-                ErrorKind::WouldBlock => Filled::Waits,
-                _ => Filled::Failed,
-            },
-        }
-    }
-
-    /// Writes once what was read and is not written yet. An error of the kind `WouldBlock` is no failure: none can be
-    /// taken yet.
-    pub fn drain<W: Write>(&mut self, writer: &mut W) -> Drained
-        requires { next_of self.old ≡ Next.Drain }
-        ensures { DrainsPipe (record { old = self.old; new = self.new })
-            (W.contents writer.old) (W.contents writer.new) result }
-    {
-        match writer.write(&self.bytes[self.written..self.len]) {
-            Ok(0) => Drained::Failed,
-            Ok(count) => {
-                self.written += count;
-                Drained::Took
-            }
-            Err(error) => match error.kind() {
-                ErrorKind::WouldBlock => Drained::Waits,
-                _ => Drained::Failed,
-            },
-        }
-    }
-
-    /// The direction to the other end was ended, where that is next.
-    pub fn direction_ended(&mut self)
-        requires { next_of self.old ≡ Next.EndDirection }
-        ensures { self.new ≡ with_direction_ended self.old }
-    {
-        self.stage = PipeStage::Passed;
     }
 }

@@ -1,192 +1,177 @@
 //! A connection between a client and a server that is tapped: its bytes are passed on both ways, and told.
 
-ghost use Rattle.std.specs.Prelude.{◌≡◌, ◌≢◌, false};
-ghost use Rattle.ws_frame.specs.Watching.{has_failed, inner_of};
+ghost use Rattle.std.specs.Prelude.{◌≡◌, ◌<◌, ◌≤◌, [], length, take, true, false};
 ghost use Rattle.ws_frame.specs.Devices.{watched};
-ghost use Rattle.ws_tap.specs.Tapping.{IsNewTap, StandsSomehow, client_next, server_next};
-ghost use Rattle.ws_tap.specs.Tapping.{ReadsClient, ReadsServer, WritesClient, WritesServer, Goes, device_bytes};
-ghost use Rattle.ws_tap.specs.Tapping.{AnswersRead, AnswersWrite};
-ghost use Rattle.ws_tap.specs.Tapping.{client_has_ended, server_has_ended};
-ghost use Rattle.ws_tap.specs.declared.pipe.Next.TheVariants as next;
+ghost use Rattle.ws_frame.specs.Watching.{has_failed};
+ghost use Rattle.ws_tap.specs.Tapping.{EndsNext, ExtendsTap, HasTapped, IsTapping, TellsNext, ends_wanted, is_tap_over};
+ghost use Rattle.ws_tap.specs.Tapping.{first_end_of, pipe_from, room_from, waits_for, with_end_by, with_pipe};
+ghost use Rattle.ws_tap.specs.Piping.{with_piece};
+ghost use Rattle.ws_tap.specs.Told.{CameFrom, EndedTo, TakenBy};
 
-use crate::client_lines::ClientLines;
-use crate::pipe::{Drained, Filled, Next, Pipe};
-use crate::server_lines::ServerLines;
+use crate::pipe::Pipe;
+use crate::tap_lines::TapLines;
 use crate::tapped::Tapped;
-use crate::telling::{tell_client, tell_server};
 use std::alloc::Global;
-use std::io::{Read, Write};
-use ws_frame::{ShowFault, Watched};
+use std::io::Write;
+use ws_frame::{ShowFault, Watched, WriteFault};
+use ws_wire::Role;
 
-/// A tapped connection. What is read from one end is told, and written to the other, unchanged and in order. Memory is
-/// taken only where whole payloads are shown.
+/// A tapped connection, as a machine with two sides: it is told what happened at either end, says what each is to be
+/// asked for next, and tells its lines. What came from one end is to be written to the other, unchanged and in order.
+/// It reads nothing itself, and waits for nothing. Memory is taken only where whole payloads are shown.
 #[derive(Drop)]
 pub struct Tap {
     /// From the client to the server.
     client: Pipe,
     /// From the server to the client.
     server: Pipe,
-    client_lines: ClientLines,
-    server_lines: ServerLines,
+    lines: TapLines,
+    /// The end that was first to end its direction.
+    first: Option<Role>,
 }
 
 impl Tap {
     /// This connection, over which nothing has passed.
     pub fn new(tapped: Tapped) -> Tap
-        ensures begun { IsNewTap tapped result }
-        ensures client { client_next result ≡ next.Fill }
-        ensures server { server_next result ≡ next.Fill }
+        ensures begun { HasTapped tapped [] result [] }
     {
         Tap {
             client: Pipe::new(),
             server: Pipe::new(),
-            client_lines: ClientLines::new(tapped),
-            server_lines: ServerLines::new(tapped),
+            lines: TapLines::new(tapped),
+            first: None,
         }
     }
 
-    /// What is to be done next for the direction of the client.
-    pub fn client_next(&self) -> Next
-        ensures next { result ≡ client_next self.now }
+    /// How many bytes may be read from this end now, 0 where none may: an end is read once all that came from it was
+    /// taken by the other.
+    pub fn room(&self, role: Role) -> usize
+        ensures room { result ≡ room_from role self.now }
     {
-        self.client.next()
+        match role {
+            Role::Client => self.client.room(),
+            Role::Server => self.server.room(),
+        }
     }
 
-    /// What is to be done next for the direction of the server.
-    pub fn server_next(&self) -> Next
-        ensures next { result ≡ server_next self.now }
-    {
-        self.server.next()
-    }
-
-    /// Whether the client has ended its direction.
-    pub fn client_has_ended(&self) -> bool
-        ensures { result ≡ client_has_ended self.now }
-    {
-        self.client.has_ended()
-    }
-
-    /// Whether the server has ended its direction.
-    pub fn server_has_ended(&self) -> bool
-        ensures { result ≡ server_has_ended self.now }
-    {
-        self.server.has_ended()
-    }
-
-    /// Reads once from the client, where that is next, and tells what came. At an error the output has failed, or
-    /// memory ran out.
-    pub fn read_client<R: Read, W: Write>(
+    /// These bytes came from this end: the lines that they make certain are told. At an error the output has failed, or
+    /// memory ran out, and a beginning of these lines was written.
+    pub fn came<W: Write>(
         &mut self,
         alloc: Global,
-        reader: &mut R,
+        role: Role,
         output: &mut Watched<W>,
-    ) -> Result<Filled, ShowFault>
-        requires next { client_next self.old ≡ next.Fill }
-        requires stands { StandsSomehow self.old }
+        piece: &[u8],
+    ) -> Result<(), ShowFault>
+        requires some { 0 < length piece.now }
+        requires fits { length piece.now ≤ room_from role self.old }
+        requires tapping { IsTapping self.old }
         requires output_works { has_failed output.old ≡ false }
-        ensures reads { ReadsClient (record { old = self.old; new = self.new })
-            (device_bytes (R.remaining reader.old) (R.remaining reader.new))
+        ensures told { TellsNext (CameFrom role piece.now) self.old self.new
             (watched W.contents output.old output.new) result }
-        ensures answers { AnswersRead (record { old = self.old.client; new = self.new.client })
-            (device_bytes (R.remaining reader.old) (R.remaining reader.new)) result }
-        ensures going { client_next self.new ≢ next.Nothing }
-        ensures other { server_next self.new ≡ server_next self.old }
     {
-        let filled = self.client.fill(reader);
-        match filled {
-            Filled::Came => tell_client(
-                alloc,
-                &mut self.client_lines,
-                output,
-                self.client.piece(),
-            )?,
-            Filled::AtEnd => self.client_lines.ended(output)?,
-            Filled::Waits => {}
-            Filled::Failed => {}
-        }
-        Ok(filled)
+        self.hold(role, piece);
+        self.lines.came(alloc, role, output, piece)
     }
 
-    /// Reads once from the server, where that is next, and tells what came. At an error the output has failed, or
-    /// memory ran out.
-    pub fn read_server<R: Read, W: Write>(
-        &mut self,
-        alloc: Global,
-        reader: &mut R,
-        output: &mut Watched<W>,
-    ) -> Result<Filled, ShowFault>
-        requires next { server_next self.old ≡ next.Fill }
-        requires stands { StandsSomehow self.old }
+    /// This end has ended its direction, where it may be read: a cut inside a frame is told. At an error the output has
+    /// failed.
+    pub fn ended<W: Write>(&mut self, role: Role, output: &mut Watched<W>) -> Result<(), WriteFault>
+        requires room { 0 < room_from role self.old }
+        requires tapping { IsTapping self.old }
         requires output_works { has_failed output.old ≡ false }
-        ensures reads { ReadsServer (record { old = self.old; new = self.new })
-            (device_bytes (R.remaining reader.old) (R.remaining reader.new))
-            (watched W.contents output.old output.new) result }
-        ensures answers { AnswersRead (record { old = self.old.server; new = self.new.server })
-            (device_bytes (R.remaining reader.old) (R.remaining reader.new)) result }
-        ensures going { server_next self.new ≢ next.Nothing }
-        ensures other { client_next self.new ≡ client_next self.old }
+        ensures told { EndsNext role self.old self.new (watched W.contents output.old output.new) result }
     {
-        let filled = self.server.fill(reader);
-        match filled {
-            Filled::Came => tell_server(
-                alloc,
-                &mut self.server_lines,
-                &mut self.client_lines,
-                output,
-                self.server.piece(),
-            )?,
-            Filled::AtEnd => self.server_lines.ended(output)?,
-            Filled::Waits => {}
-            Filled::Failed => {}
+        self.end(role);
+        self.lines.ended(role, output)
+    }
+
+    /// The bytes that are to be written to this end, or none.
+    pub fn to_write(&self, role: Role) -> &[u8]
+        ensures waits { result.now ≡ waits_for role self.now }
+    {
+        match role {
+            Role::Client => self.server.held(),
+            Role::Server => self.client.held(),
         }
-        Ok(filled)
     }
 
-    /// Writes once to the server what came from the client, where that is next.
-    pub fn write_server<W: Write>(&mut self, writer: &mut W) -> Drained
-        requires next { client_next self.old ≡ next.Drain }
-        requires stands { StandsSomehow self.old }
-        ensures writes { WritesServer (record { old = self.old; new = self.new })
-            (device_bytes (W.contents writer.old) (W.contents writer.new)) }
-        ensures answers { AnswersWrite (record { old = self.old.client; new = self.new.client })
-            (device_bytes (W.contents writer.old) (W.contents writer.new)) result }
-        ensures going { client_next self.new ≢ next.Nothing }
-        ensures other { server_next self.new ≡ server_next self.old }
+    /// This end took so many of the bytes that are to be written to it.
+    pub fn taken(&mut self, role: Role, count: usize)
+        requires held { count ≤ length (waits_for role self.old) }
+        ensures told { ExtendsTap self.old self.new (TakenBy role (take count (waits_for role self.old))) }
     {
-        self.client.drain(writer)
+        match role {
+            Role::Client => self.server.took(count),
+            Role::Server => self.client.took(count),
+        }
     }
 
-    /// Writes once to the client what came from the server, where that is next.
-    pub fn write_client<W: Write>(&mut self, writer: &mut W) -> Drained
-        requires next { server_next self.old ≡ next.Drain }
-        requires stands { StandsSomehow self.old }
-        ensures writes { WritesClient (record { old = self.old; new = self.new })
-            (device_bytes (W.contents writer.old) (W.contents writer.new)) }
-        ensures answers { AnswersWrite (record { old = self.old.server; new = self.new.server })
-            (device_bytes (W.contents writer.old) (W.contents writer.new)) result }
-        ensures going { server_next self.new ≢ next.Nothing }
-        ensures other { client_next self.new ≡ client_next self.old }
+    /// Whether the direction to this end is to be ended: all that came from the other was taken, and no more comes.
+    pub fn wants_end(&self, role: Role) -> bool
+        ensures wanted { result ≡ ends_wanted role self.now }
     {
-        self.server.drain(writer)
+        match role {
+            Role::Client => self.server.wants_end(),
+            Role::Server => self.client.wants_end(),
+        }
     }
 
-    /// The direction to the server was ended, where that is next.
-    pub fn server_direction_ended(&mut self)
-        requires next { client_next self.old ≡ next.EndDirection }
-        ensures over { client_next self.new ≡ next.Nothing }
-        ensures other { server_next self.new ≡ server_next self.old }
-        ensures goes { Goes (record { old = self.old; new = self.new }) }
+    /// The direction to this end was ended, where that was wanted.
+    pub fn direction_ended(&mut self, role: Role)
+        requires wanted { ends_wanted role self.old ≡ true }
+        ensures told { ExtendsTap self.old self.new (EndedTo role) }
     {
-        self.client.direction_ended();
+        match role {
+            Role::Client => self.server.direction_ended(),
+            Role::Server => self.client.direction_ended(),
+        }
     }
 
-    /// The direction to the client was ended, where that is next.
-    pub fn client_direction_ended(&mut self)
-        requires next { server_next self.old ≡ next.EndDirection }
-        ensures over { server_next self.new ≡ next.Nothing }
-        ensures other { client_next self.new ≡ client_next self.old }
-        ensures goes { Goes (record { old = self.old; new = self.new }) }
+    /// The end that was first to end its direction, where one has.
+    pub fn first_to_end(&self) -> Option<Role>
+        ensures first { result ≡ self.now.first }
     {
-        self.server.direction_ended();
+        self.first
+    }
+
+    /// Whether nothing is left to be done: both directions were ended, behind all that came.
+    pub fn is_over(&self) -> bool
+        ensures over { result ≡ is_tap_over self.now }
+    {
+        self.client.is_passed() && self.server.is_passed()
+    }
+
+    /// Holds what came from this end.
+    fn hold(&mut self, role: Role, piece: &[u8])
+        requires some { 0 < length piece.now }
+        requires fits { length piece.now ≤ room_from role self.old }
+        ensures held { self.new ≡ with_pipe role self.old (with_piece (pipe_from role self.old) piece.now) }
+    {
+        match role {
+            Role::Client => self.client.came(piece),
+            Role::Server => self.server.came(piece),
+        }
+    }
+
+    /// The direction of this end has ended.
+    fn end(&mut self, role: Role)
+        ensures ended { self.new ≡ with_end_by role self.old }
+    {
+        self.first = first_end_of(self.first, role);
+        match role {
+            Role::Client => self.client.ended(),
+            Role::Server => self.server.ended(),
+        }
+    }
+}
+
+/// The end that was first to end its direction: the one that is known, or else this one.
+fn first_end_of(first: Option<Role>, role: Role) -> Option<Role>
+    ensures { result ≡ first_end_of first role }
+{
+    match first {
+        Some(known) => Some(known),
+        None => Some(role),
     }
 }

@@ -1,21 +1,25 @@
 //! A tapped connection over the readers and writers of its ends, until both directions have ended.
 
-ghost use Rattle.std.specs.Prelude.{◌≡◌, IfOk, false};
+ghost use Rattle.std.specs.Prelude.{◌≡◌, ◌≢◌, ◌<◌, IfOk, false, true};
 ghost use Rattle.std.specs.Io.KnownBytes.{Keeps};
 ghost use Rattle.ws_frame.specs.Devices.{watched};
 ghost use Rattle.ws_frame.specs.Watching.{has_failed};
-ghost use Rattle.ws_tap.specs.Tapping.{StandsSomehow, client_next, server_next, device_bytes};
-ghost use Rattle.ws_tap.specs.Running.{HalfClosesBoth, PassesClient, PassesServer, TapsEnds, TellsTap, first_to_end};
-ghost use Rattle.ws_tap.specs.Running.{is_tap_over, run_devices};
-ghost use Rattle.ws_tap.specs.declared.pipe.Next.TheVariants.{Nothing};
+ghost use Rattle.ws_tap.specs.Tapping.{IsTapping, ends_wanted, room_from};
+ghost use Rattle.ws_tap.specs.Told.{other_end};
+ghost use Rattle.ws_tap.specs.Running.{EndsDirection, HalfClosesBoth, PassesOne, ReadsSome, TapsEnds, TellsTap};
+ghost use Rattle.ws_tap.specs.Running.{WritesToEnd, device_bytes, run_devices};
+ghost use Rattle.ws_tap.specs.declared.tapping.Passed.TheVariants.{On};
 
-use crate::pipe::{Drained, Filled, Next};
 use crate::tap::Tap;
 use crate::tapped::Tapped;
 use std::alloc::Global;
 use std::io;
-use std::io::{Read, Write};
-use ws_frame::{Role, ShowFault, Watched};
+use std::io::{ErrorKind, Read, Write};
+use ws_frame::{ShowFault, Watched};
+use ws_wire::Role;
+
+/// One read asks for at most so many bytes.
+const READ: usize = 65536;
 
 /// A writer to one end of a tapped connection, whose direction can be ended while the other one goes on.
 pub trait TapWriter: Write {
@@ -52,7 +56,7 @@ pub enum TapEnd {
 
 /// What came of a step of a direction.
 #[derive(Clone, Copy)]
-enum Passed {
+pub(crate) enum Passed {
     /// It went on.
     On,
     /// Nothing can be done now.
@@ -82,25 +86,24 @@ pub fn tap_ends<CR: Read, CW: TapWriter, SR: Read, SW: TapWriter, K: Wakes, W: W
     ensures half_closes { HalfClosesBoth (CW.is_ended client.new.writer) (SW.is_ended server.new.writer) result }
 {
     let mut tap = Tap::new(tapped);
-    let mut first = None;
     for _ in 0..u64::MAX {
-        let sent = pass_client(
+        let sent = pass(
             alloc,
             &mut tap,
+            Role::Client,
             &mut client.reader,
             &mut server.writer,
             output,
         )?;
-        first = first_to_end(first, &tap);
-        let got = pass_server(
+        let got = pass(
             alloc,
             &mut tap,
+            Role::Server,
             &mut server.reader,
             &mut client.writer,
             output,
         )?;
-        first = first_to_end(first, &tap);
-        if let (Some(role), true) = (first, is_over(&tap)) {
+        if let (Some(role), true) = (tap.first_to_end(), tap.is_over()) {
             return Ok(TapEnd::Ended(role));
         }
         if !goes_on(sent, got, wakes) {
@@ -108,34 +111,6 @@ pub fn tap_ends<CR: Read, CW: TapWriter, SR: Read, SW: TapWriter, K: Wakes, W: W
         }
     }
     Ok(TapEnd::Broken)
-}
-
-/// The end whose direction ended first, where one has ended.
-fn first_to_end(first: Option<Role>, tap: &Tap) -> Option<Role>
-    ensures { result ≡ first_to_end first tap.now }
-{
-    match first {
-        Some(role) => Some(role),
-        None => {
-            if tap.client_has_ended() {
-                Some(Role::Client)
-            } else if tap.server_has_ended() {
-                Some(Role::Server)
-            } else {
-                None
-            }
-        }
-    }
-}
-
-/// Whether nothing is left to be done for both directions.
-fn is_over(tap: &Tap) -> bool
-    ensures { result ≡ is_tap_over tap.now }
-{
-    match (tap.client_next(), tap.server_next()) {
-        (Next::Nothing, Next::Nothing) => true,
-        _ => false,
-    }
 }
 
 /// Whether the connection goes on: at once where a direction went on, else once one may.
@@ -147,90 +122,110 @@ fn goes_on<K: Wakes>(client: Passed, server: Passed, wakes: &mut K) -> bool {
     }
 }
 
-/// One step of the client's direction.
-fn pass_client<R: Read, W: TapWriter, O: Write>(
+/// One step of the direction of this end: what is to be written to the other is written before more is read.
+fn pass<R: Read, W: TapWriter, O: Write>(
     alloc: Global,
     tap: &mut Tap,
-    from_client: &mut R,
-    to_server: &mut W,
+    role: Role,
+    from: &mut R,
+    to: &mut W,
     output: &mut Watched<O>,
 ) -> Result<Passed, ShowFault>
-    requires stands { StandsSomehow tap.old }
+    requires tapping { IsTapping tap.old }
     requires output_works { has_failed output.old ≡ false }
-    ensures passes { PassesClient (record { old = tap.old; new = tap.new })
-        (device_bytes (R.remaining from_client.old) (R.remaining from_client.new))
-        (device_bytes (W.contents to_server.old) (W.contents to_server.new))
+    ensures passes { PassesOne role tap.old tap.new
+        (device_bytes (R.remaining from.old) (R.remaining from.new))
+        (device_bytes (W.contents to.old) (W.contents to.new))
+        (W.is_ended to.old) (W.is_ended to.new)
         (watched O.contents output.old output.new) result }
-    ensures half_closed { (client_next tap.old ≡ Nothing → W.is_ended to_server.old)
-        → IfOk result (λ passed. client_next tap.new ≡ Nothing → W.is_ended to_server.new) }
-    ensures other { server_next tap.new ≡ server_next tap.old }
 {
-    match tap.client_next() {
-        Next::Fill => {
-            let filled = tap.read_client(alloc, from_client, output)?;
-            Ok(after_read(filled))
-        }
-        Next::Drain => Ok(after_write(tap.write_server(to_server))),
-        Next::EndDirection => {
-            if to_server.half_close().is_err() {
-                return Ok(Passed::Broken);
-            }
-            tap.server_direction_ended();
-            Ok(Passed::On)
-        }
-        Next::Nothing => Ok(Passed::Waits),
+    let other = other_end(role);
+    if !tap.to_write(other).is_empty() {
+        return Ok(write_some(tap, other, to));
+    }
+    if tap.wants_end(other) {
+        return Ok(end_direction(tap, other, to));
+    }
+    if tap.room(role) == 0 {
+        return Ok(Passed::Waits);
+    }
+    read_some(alloc, tap, role, from, output)
+}
+
+/// The other end.
+fn other_end(role: Role) -> Role
+    ensures { result ≡ other_end role }
+{
+    match role {
+        Role::Client => Role::Server,
+        Role::Server => Role::Client,
     }
 }
 
-/// One step of the server's direction.
-fn pass_server<R: Read, W: TapWriter, O: Write>(
+/// Writes once to this end what is to be written to it.
+fn write_some<W: Write>(tap: &mut Tap, role: Role, to: &mut W) -> Passed
+    ensures { WritesToEnd role tap.old tap.new (device_bytes (W.contents to.old) (W.contents to.new)) result }
+{
+    match to.write(tap.to_write(role)) {
+        Ok(0) => Passed::Broken,
+        Ok(count) => {
+            tap.taken(role, count);
+            Passed::On
+        }
+        Err(error) => after_error(&error),
+    }
+}
+
+/// Ends the direction to this end.
+fn end_direction<W: TapWriter>(tap: &mut Tap, role: Role, to: &mut W) -> Passed
+    requires { ends_wanted role tap.old ≡ true }
+    ensures { EndsDirection role tap.old tap.new (device_bytes (W.contents to.old) (W.contents to.new))
+        (W.is_ended to.new) result }
+{
+    if to.half_close().is_err() {
+        return Passed::Broken;
+    }
+    tap.direction_ended(role);
+    Passed::On
+}
+
+/// Reads once from this end, and tells what came. A read that 64 bits may not count is not made.
+fn read_some<R: Read, O: Write>(
     alloc: Global,
     tap: &mut Tap,
-    from_server: &mut R,
-    to_client: &mut W,
+    role: Role,
+    from: &mut R,
     output: &mut Watched<O>,
 ) -> Result<Passed, ShowFault>
-    requires stands { StandsSomehow tap.old }
+    requires room { 0 < room_from role tap.old }
+    requires tapping { IsTapping tap.old }
     requires output_works { has_failed output.old ≡ false }
-    ensures passes { PassesServer (record { old = tap.old; new = tap.new })
-        (device_bytes (R.remaining from_server.old) (R.remaining from_server.new))
-        (device_bytes (W.contents to_client.old) (W.contents to_client.new))
+    ensures { ReadsSome role tap.old tap.new (device_bytes (R.remaining from.old) (R.remaining from.new))
         (watched O.contents output.old output.new) result }
-    ensures half_closed { (server_next tap.old ≡ Nothing → W.is_ended to_client.old)
-        → IfOk result (λ passed. server_next tap.new ≡ Nothing → W.is_ended to_client.new) }
-    ensures other { client_next tap.new ≡ client_next tap.old }
 {
-    match tap.server_next() {
-        Next::Fill => {
-            let filled = tap.read_server(alloc, from_server, output)?;
-            Ok(after_read(filled))
-        }
-        Next::Drain => Ok(after_write(tap.write_client(to_client))),
-        Next::EndDirection => {
-            if to_client.half_close().is_err() {
-                return Ok(Passed::Broken);
-            }
-            tap.client_direction_ended();
+    if tap.room(role) < READ {
+        return Ok(Passed::Broken);
+    }
+    let mut room = [0; READ];
+    match from.read(&mut room) {
+        Ok(0) => {
+            tap.ended(role, output)?;
             Ok(Passed::On)
         }
-        Next::Nothing => Ok(Passed::Waits),
+        Ok(count) => {
+            tap.came(alloc, role, output, &room[..count])?;
+            Ok(Passed::On)
+        }
+        Err(error) => Ok(after_error(&error)),
     }
 }
 
-/// What came of a step that reads.
-fn after_read(filled: Filled) -> Passed {
-    match filled {
-        Filled::Came | Filled::AtEnd => Passed::On,
-        Filled::Waits => Passed::Waits,
-        Filled::Failed => Passed::Broken,
-    }
-}
-
-/// What came of a step that writes.
-fn after_write(drained: Drained) -> Passed {
-    match drained {
-        Drained::Took => Passed::On,
-        Drained::Waits => Passed::Waits,
-        Drained::Failed => Passed::Broken,
+/// What an error says of a step. One of the kind `WouldBlock` is no failure: nothing can be read or written yet.
+fn after_error(error: &io::Error) -> Passed
+    ensures { result ≢ On }
+{
+    match error.kind() {
+        ErrorKind::WouldBlock => Passed::Waits,
+        _ => Passed::Broken,
     }
 }

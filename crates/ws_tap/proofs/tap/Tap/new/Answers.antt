@@ -1,7 +1,16 @@
 -- Nothing has passed, and nothing was told.
-use Rattle.ws_tap.proofs.TapLemmas.{new_stands}
+use Rattle.std.proofs.Common.{[], refl}
+use Rattle.ws_tap.proofs.PipeLemmas.{pipe_is_new}
 use Rattle.ws_tap.proofs.tap.Tap.new.Goals as goal
 
-pub returns-clause-begun : goal.returns-clause-begun
-returns-clause-begun c = new_stands c.args.tapped c.new.result c.new-2.result c.new-3.result c.new-4.result
-    c.new.ensures c.new-2.ensures c.new-3.ensures.begun c.new-4.ensures.begun
+pub returns : goal.returns
+returns c = record {
+  begun = record {
+    client = pipe_is_new c.new.result c.new.ensures;
+    server = pipe_is_new c.new-2.result c.new-2.ensures;
+    first = refl;
+    parts = [];
+    lines = c.new-3.ensures.begun;
+    all = refl;
+  };
+}

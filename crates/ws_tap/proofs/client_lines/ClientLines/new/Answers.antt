@@ -1,8 +1,0 @@
--- The lines of a new client have told nothing, of nothing sent.
-use Rattle.std.proofs.Common.{refl}
-use Rattle.ws_tap.specs.declared.heads.HeadKind.TheVariants.{Request}
-use Rattle.ws_tap.proofs.HeadStarts.{nothing_has_no_head}
-use Rattle.ws_tap.proofs.client_lines.ClientLines.new.Goals as goal
-
-pub returns : goal.returns
-returns c = record { begun = (refl, ((c.new.ensures, nothing_has_no_head Request), refl, c.new-2.ensures)) }
