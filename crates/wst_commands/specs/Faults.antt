@@ -15,6 +15,7 @@ use Rattle.wst_commands.specs.declared.fault.Fault.TheVariants.{NotAResult, NotL
 use Rattle.wst_commands.specs.declared.fault.Fault.TheVariants.{NoText, NoTask, NoMemory, RoleWithoutCapture}
 use Rattle.wst_commands.specs.declared.fault.Fault.TheVariants.{JunitWithJson, JunitWithSummary, NoCaseLine, NotAName}
 use Rattle.wst_commands.specs.declared.fault.Fault.TheVariants.{CaptureOfServer, HeadIsCut, SummaryWithJson}
+use Rattle.wst_commands.specs.declared.fault.Fault.TheVariants.{BadAtOnce, BadDeadline, DeadlineWithUnit}
 use Rattle.wst_commands.specs.declared.fault.Fault.TheVariants.{TimeoutWithUnit}
 use Rattle.wst_commands.specs.declared.fault.ListenFault.{ListenFault}
 use Rattle.wst_commands.specs.declared.fault.ListenFault.TheVariants as why
@@ -54,6 +55,12 @@ TellsFault BadTimeout exit faults = (exit ≡ WrongWords)
     × Tells (codes "bad timeout\n  a whole number of seconds, 1 to 3600: --timeout 5\n") faults
 TellsFault TimeoutWithUnit exit faults =
     (exit ≡ WrongWords) × Tells (codes "bad timeout\n  seconds without a unit: --timeout 5\n") faults
+TellsFault BadDeadline exit faults = (exit ≡ WrongWords)
+    × Tells (codes "bad timeout\n  a whole number of seconds, 1 to 86400: --deadline 60\n") faults
+TellsFault DeadlineWithUnit exit faults =
+    (exit ≡ WrongWords) × Tells (codes "bad timeout\n  seconds without a unit: --deadline 60\n") faults
+TellsFault BadAtOnce exit faults = (exit ≡ WrongWords)
+    × Tells (codes "bad at-once\n  a whole number, 1 to 1000: --at-once 16\n") faults
 TellsFault StreamWithCapture exit faults =
     (exit ≡ WrongWords) × Tells (codes "--capture takes no --from or --budget\n") faults
 TellsFault RoleWithoutCapture exit faults = (exit ≡ WrongWords) × Tells (codes "--role takes --capture\n") faults

@@ -67,11 +67,10 @@ abbrev pub ten_times : TimeLimit → TimeLimit
 ten_times Unlimited = Unlimited
 ten_times (Seconds seconds) = Seconds (min seconds 8640 * 10)
 
--- the shorter one of two
-abbrev pub shorter : TimeLimit → TimeLimit → TimeLimit
-shorter Unlimited other = other
-shorter (Seconds seconds) Unlimited = Seconds seconds
-shorter (Seconds seconds) (Seconds others) = Seconds (min seconds others)
+-- a limit of time in milliseconds
+abbrev pub milliseconds_of : TimeLimit → Option ℕ
+milliseconds_of Unlimited = None
+milliseconds_of (Seconds seconds) = Some (seconds * 1000)
 
 abbrev pub is_no_digit : ℕ → Bool
 is_no_digit byte = not (is_ascii_digit byte)

@@ -40,6 +40,12 @@ pub enum Fault {
     BadTimeout,
     /// The same: digits with a unit.
     TimeoutWithUnit,
+    /// No number of seconds that a connection can last.
+    BadDeadline,
+    /// The same: digits with a unit.
+    DeadlineWithUnit,
+    /// No number of connections that can be served at a time.
+    BadAtOnce,
     /// An option of a stream is given with a capture.
     StreamWithCapture,
     /// The tested end is named without a capture.
@@ -138,6 +144,27 @@ pub fn tell_fault<F: Write>(alloc: Global, fault: Fault, faults: &mut Watched<F>
         Fault::TimeoutWithUnit => {
             tell(
                 b"bad timeout\n  seconds without a unit: --timeout 5\n",
+                faults,
+            );
+            Exit::WrongWords
+        }
+        Fault::BadDeadline => {
+            tell(
+                b"bad timeout\n  a whole number of seconds, 1 to 86400: --deadline 60\n",
+                faults,
+            );
+            Exit::WrongWords
+        }
+        Fault::DeadlineWithUnit => {
+            tell(
+                b"bad timeout\n  seconds without a unit: --deadline 60\n",
+                faults,
+            );
+            Exit::WrongWords
+        }
+        Fault::BadAtOnce => {
+            tell(
+                b"bad at-once\n  a whole number, 1 to 1000: --at-once 16\n",
                 faults,
             );
             Exit::WrongWords

@@ -5,7 +5,8 @@ ghost use Rattle.ws_base.specs.Finding.{Finds};
 ghost use Rattle.wst_commands.specs.TimeLimits.{GivesDeadline, GivesLimit, GivesTimeout, GivesWait, HasDeadline};
 ghost use Rattle.wst_commands.specs.TimeLimits.{GivesLimitOrNone, GivesRunTimeout, HasLimitOrNone, HasRunTimeout};
 ghost use Rattle.wst_commands.specs.TimeLimits.{HasLimit, HasTimeout, HasUnit, HasUnitAt, HasWait, IsCountWord};
-ghost use Rattle.wst_commands.specs.TimeLimits.{IsWithUnit, Reaches, is_limited, is_no_digit, shorter, ten_times};
+ghost use Rattle.wst_commands.specs.TimeLimits.{IsWithUnit, Reaches, is_limited, is_no_digit, milliseconds_of};
+ghost use Rattle.wst_commands.specs.TimeLimits.{ten_times};
 
 use std::time::Duration;
 use ws_formats::read_u32;
@@ -49,16 +50,13 @@ impl TimeLimit {
         }
     }
 
-    /// The shorter one of two.
-    pub fn shorter(self, other: TimeLimit) -> TimeLimit
-        ensures { result ≡ shorter self other }
+    /// It in milliseconds, `None` where there is no limit.
+    pub fn milliseconds(self) -> Option<u64>
+        ensures { result ≡ milliseconds_of self }
     {
-        match (self, other) {
-            (TimeLimit::Unlimited, other) => other,
-            (limit, TimeLimit::Unlimited) => limit,
-            (TimeLimit::Seconds(seconds), TimeLimit::Seconds(others)) => {
-                TimeLimit::Seconds(seconds.min(others))
-            }
+        match self {
+            TimeLimit::Unlimited => None,
+            TimeLimit::Seconds(seconds) => Some(u64::from(seconds) * 1000),
         }
     }
 

@@ -1,7 +1,13 @@
--- An address is cut at its last colon in one way, and so it has at most one host at the port 0.
-use Rattle.std.proofs.Common.{◌≡◌, ◌≢◌, ◌∙◌, ℕ, inl, inr, List, [], ◌∷◌, ◌++◌, All, ap, refl, subst, sym, arith}
+-- An address is cut at its last colon in one way, and so it has at most one host at the port 0. One that can't be told is
+-- not listened at.
+use Rattle.std.proofs.Common.{◌≡◌, ◌≢◌, ◌∙◌, ℕ, inl, inr, List, [], ◌∷◌, ◌++◌, All, ap, refl, subst, sym, arith, Result, Ok}
+use Rattle.std.proofs.Common.{Err, IsErrAnd}
+use Rattle.std.specs.Prelude.{MatchResult}
 use Rattle.std.proofs.lemmas.List.Elements.{All-cons, All-head, All-same, All-tail}
-use Rattle.wst_sockets.specs.Listening.{AreZeros, IsCutAtPort, LacksPort0, SpellsPort0, plus, port_colon}
+use Rattle.wst_commands.specs.declared.fault.Fault.{Fault}
+use Rattle.wst_commands.specs.declared.fault.ListenFault.TheVariants as listen
+use Rattle.wst_sockets.specs.Listening.{AreZeros, CanNotListen, CanNotTell, IsCutAtPort, LacksPort0, SpellsPort0, plus}
+use Rattle.wst_sockets.specs.Listening.{port_colon}
 
 abbrev pub NoColon : ℕ → Type 0
 NoColon byte = byte ≢ port_colon
@@ -43,3 +49,10 @@ lacks_port_0 address host word (e, lacks) other at (zeros, f, is) =
 pub lacks_ports : (address : List ℕ) → All NoColon address → LacksPort0 address
 lacks_ports address lacks at (zeros, f, is) =
     none_behind at zeros (All-same NoColon (at ++ port_colon ∷ zeros) address (sym f) lacks)
+
+-- an address that can't be told is not listened at
+pub untold_unheard : {A : Type 0} (P : A → Type 0) (ended : Result A Fault) → IsErrAnd ended CanNotTell
+    → MatchResult ended P CanNotListen
+untold_unheard P (Ok heard) is = absurd is
+untold_unheard P (Err fault) (inl lacks) = inr lacks
+untold_unheard P (Err fault) (inr is) = inl (listen.Failed, is)

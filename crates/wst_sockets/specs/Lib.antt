@@ -2,9 +2,5 @@ pub mod Resuming
 pub mod Meetings
 pub mod Connecting
 pub mod Listening
-pub mod Accepting
 pub mod Waiting
-pub mod Lingering
-pub mod Serve
-pub mod Tapping
 pub mod Examples

@@ -62,6 +62,10 @@ IsToldFor address told = (LacksPort0 address × (told ≡ address))
 abbrev pub CanNotTell : Fault → Type 0
 CanNotTell given = (given ≡ fault.NoMemory) ⊎ (given ≡ fault.NotListening why.Failed)
 
+-- why nothing can be listened at, or want of memory
+abbrev pub CanNotListen : Fault → Type 0
+CanNotListen given = ((wrong : ListenFault) × (given ≡ fault.NotListening wrong)) ⊎ (given ≡ fault.NoMemory)
+
 -- the bytes are front, their last colon, and back
 abbrev pub IsCutAtPort : List ℕ → List ℕ → List ℕ → Type 0
 IsCutAtPort bytes front back = (bytes ≡ front ++ port_colon ∷ back) × All (λ byte. byte ≢ port_colon) back

@@ -1,36 +1,71 @@
 //! An address of a network that is listened at, and the clients that come to it.
 
 ghost use Rattle.std.specs.Prelude.{◌≡◌, ◌↔◌, IsTrue, MatchOption, MatchResult};
-ghost use Rattle.wst_sockets.specs.Listening.{AreZeros, CanNotTell, CutsAtPort, IsAtPort0, IsToldFor, IsWithPort};
-ghost use Rattle.wst_sockets.specs.Listening.{LacksPort0, SpellsPort0, listen_fault_at, lookup_fault_at};
+ghost use Rattle.wst_sockets.specs.Listening.{AreZeros, CanNotListen, CanNotTell, CutsAtPort, IsAtPort0, IsToldFor};
+ghost use Rattle.wst_sockets.specs.Listening.{IsWithPort, LacksPort0, SpellsPort0, listen_fault_at, lookup_fault_at};
 
 use std::alloc::Global;
-use std::io;
 use std::io::ErrorKind;
-use std::net::{Net, OpenListener, ToSocketAddrs};
+use ws_networks::{Network, Unheard};
 use wst_commands::{Fault, ListenFault};
-use wst_network::is_of_lost_client;
+use wst_network::{ConnectMiss, Connector};
 
-/// Listens at the first of an address's own addresses that can be bound. Where none can, the reason is that of the
-/// last.
-pub fn listen<N: Net>(net: &N, address: &str) -> Result<N::Listener, ListenFault> {
-    let addresses = match address.to_socket_addrs(net) {
-        Ok(addresses) => addresses,
-        Err(error) => return Err(listen_lookup_fault(error.kind())),
+/// A network, what is listened by, what waits for the streams of both, and the address that is told of it.
+#[derive(Drop)]
+pub struct Heard<N, L, P> {
+    pub network: N,
+    pub listener: L,
+    pub poller: P,
+    pub told: Vec<u8>,
+}
+
+/// Listens at an address, over a network whose sockets don't wait. The port that the system chose stands in the address
+/// that is told in the place of a port 0.
+pub fn listen_over<C: Connector>(
+    alloc: Global,
+    connector: &C,
+    address: &str,
+) -> Result<Heard<C::Network, <C::Network as Network>::Listener, C::Poller>, Fault>
+    ensures { MatchResult result (λ heard. IsToldFor address.now heard.told.items) CanNotListen }
+{
+    let (mut network, poller) = match connector.network(alloc) {
+        Ok(made) => made,
+        Err(error) => return Err(Fault::NotListening(listen_fault(error.kind()))),
     };
-    let mut why = ListenFault::NoSuchHost;
-    for address in addresses {
-        match net.bind(address) {
-            Ok(listener) => return Ok(listener),
-            Err(error) => why = listen_fault(error.kind()),
+    let listener = match ws_networks::listen(alloc, &mut network, address) {
+        Ok(listener) => listener,
+        Err(why) => return Err(unheard_fault(why)),
+    };
+    let port = match network.address_of(&listener) {
+        Ok(address) => Some(address.port()),
+        Err(_) => None,
+    };
+    let told = told_address(alloc, port, address)?;
+    Ok(Heard {
+        network,
+        listener,
+        poller,
+        told,
+    })
+}
+
+/// Why nothing is listened at, where a network says so.
+fn unheard_fault(why: Unheard<ConnectMiss>) -> Fault
+    ensures { CanNotListen result }
+{
+    match why {
+        Unheard::NoAddress => Fault::NotListening(ListenFault::NoSuchHost),
+        Unheard::Failed(ConnectMiss::NotFound(ErrorKind::OutOfMemory)) => Fault::NoMemory,
+        Unheard::Failed(ConnectMiss::NotFound(kind)) => {
+            Fault::NotListening(listen_lookup_fault(kind))
         }
+        Unheard::Failed(ConnectMiss::NotTaken(kind)) => Fault::NotListening(listen_fault(kind)),
     }
-    Err(why)
 }
 
 /// What is told of an address at which a listener takes connections: the word as it was given, but that the port which
 /// the system chose, which is this one, stands in the place of a port 0. Where it is not known, that can't be told.
-pub fn told_address(alloc: Global, port: Option<u16>, address: &str) -> Result<Vec<u8>, Fault>
+fn told_address(alloc: Global, port: Option<u16>, address: &str) -> Result<Vec<u8>, Fault>
     ensures { MatchResult result (λ told. IsToldFor address.now told.items) CanNotTell }
 {
     match host_at_port_0(address) {
@@ -101,7 +136,7 @@ fn are_zeros(word: &[u8]) -> bool
 }
 
 /// Why nothing can be listened at, where the look-up of the address fails so.
-pub fn listen_lookup_fault(kind: ErrorKind) -> ListenFault
+fn listen_lookup_fault(kind: ErrorKind) -> ListenFault
     ensures { result ≡ lookup_fault_at kind }
 {
     match kind {
@@ -111,7 +146,7 @@ pub fn listen_lookup_fault(kind: ErrorKind) -> ListenFault
 }
 
 /// Why nothing can be listened at, where the address can't be bound so.
-pub fn listen_fault(kind: ErrorKind) -> ListenFault
+fn listen_fault(kind: ErrorKind) -> ListenFault
     ensures { result ≡ listen_fault_at kind }
 {
     match kind {
@@ -119,25 +154,4 @@ pub fn listen_fault(kind: ErrorKind) -> ListenFault
         ErrorKind::PermissionDenied => ListenFault::NotPermitted,
         _ => ListenFault::Failed,
     }
-}
-
-/// The port at which a listener takes connections, where it is known.
-pub fn port_of<L: OpenListener>(listener: &L) -> Option<u16> {
-    match listener.local_addr() {
-        Ok(local) => Some(local.port()),
-        Err(_) => None,
-    }
-}
-
-/// The next connection. `None` where none can be taken. A client that went away while it waited is passed over, and so
-/// is one that the network failed.
-pub(crate) fn accepted<L: OpenListener>(listener: &L) -> Option<L::Stream> {
-    for _ in 0..u64::MAX {
-        match listener.accept() {
-            Ok((stream, _)) => return Some(stream),
-            Err(error) if is_of_lost_client(&error) => {}
-            Err(_) => return None,
-        }
-    }
-    None
 }

@@ -59,7 +59,7 @@ impl<W: Write> Write for Resumed<W> {
 }
 
 /// Reads once, again as long as a signal interrupts it.
-pub(crate) fn read_resumed<R: Read>(reader: &mut R, buf: &mut [u8]) -> io::Result<usize>
+fn read_resumed<R: Read>(reader: &mut R, buf: &mut [u8]) -> io::Result<usize>
     ensures bound { ReadsAtMost result buf.new }
     ensures bytes { ReadConsumes (R.remaining reader.old) (R.remaining reader.new) result buf.new }
     ensures uninterrupted { IsUninterrupted result }
@@ -78,7 +78,7 @@ pub(crate) fn read_resumed<R: Read>(reader: &mut R, buf: &mut [u8]) -> io::Resul
 }
 
 /// Writes once, again as long as a signal interrupts it.
-pub(crate) fn write_resumed<W: Write>(writer: &mut W, buf: &[u8]) -> io::Result<usize>
+fn write_resumed<W: Write>(writer: &mut W, buf: &[u8]) -> io::Result<usize>
     ensures bound { WritesAtMost result buf.now }
     ensures bytes { WriteAppends (W.contents writer.old) (W.contents writer.new) result buf.now }
     ensures uninterrupted { IsUninterrupted result }
@@ -97,7 +97,7 @@ pub(crate) fn write_resumed<W: Write>(writer: &mut W, buf: &[u8]) -> io::Result<
 }
 
 /// Flushes, again as long as a signal interrupts it.
-pub(crate) fn flush_resumed<W: Write>(writer: &mut W) -> io::Result<()>
+fn flush_resumed<W: Write>(writer: &mut W) -> io::Result<()>
     ensures bytes { Keeps (W.contents writer.old) (W.contents writer.new) }
     ensures uninterrupted { IsUninterrupted result }
 {

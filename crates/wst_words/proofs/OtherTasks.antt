@@ -174,7 +174,8 @@ test_own = argument (codes "max-fail") Word ∷ argument (codes "capture") Flag 
     ∷ argument (codes "ids") Words ∷ []
 
 abbrev send_own : List ArgumentRow
-send_own = argument (codes "capture") Flag ∷ argument_or (codes "data") Style (codes "hex") ∷ []
+send_own = argument (codes "capture") Flag ∷ argument_or (codes "data") Style (codes "hex")
+    ∷ argument (codes "time") Flag ∷ argument (codes "heads") Flag ∷ []
 
 test_lacks : (rows : List Row) (options : TestOptions) → LacksOneOf rows test_command.arguments
     → AsksToTest rows options → ⊥
@@ -206,11 +207,14 @@ serve_lacks rows options (inl limit) asks = limit options.limit asks.0
 serve_lacks rows options (inr (inl frame)) asks = frame options.limit options.frame asks.1
 serve_lacks rows options (inr (inr (inl budget))) asks = budget options.budget asks.2
 serve_lacks rows options (inr (inr (inr (inl timeout)))) asks = absurd timeout
-serve_lacks rows options (inr (inr (inr (inr (inl protocols))))) asks = absurd protocols
-serve_lacks rows options (inr (inr (inr (inr (inr (inl address)))))) asks =
+serve_lacks rows options (inr (inr (inr (inr (inl deadline))))) asks = absurd deadline
+serve_lacks rows options (inr (inr (inr (inr (inr (inl at_once)))))) asks =
+    no_word rows (codes "at-once") options.at_once.now at_once asks.8
+serve_lacks rows options (inr (inr (inr (inr (inr (inr (inl protocols))))))) asks = absurd protocols
+serve_lacks rows options (inr (inr (inr (inr (inr (inr (inr (inl address)))))))) asks =
     no_word rows (codes "address") options.address.now address asks.3
-serve_lacks rows options (inr (inr (inr (inr (inr (inr (inl count))))))) asks = count options.count asks.4
-serve_lacks rows options (inr (inr (inr (inr (inr (inr (inr none))))))) asks = absurd none
+serve_lacks rows options (inr (inr (inr (inr (inr (inr (inr (inr (inl count))))))))) asks = count options.count asks.4
+serve_lacks rows options (inr (inr (inr (inr (inr (inr (inr (inr (inr none))))))))) asks = absurd none
 
 pub no_serve : (name : Text) (rows : List Row) → name ≡ codes "serve" → LacksOneOf rows serve_command.arguments
     → CommandAsksNothing (Some (name, rows))
@@ -222,11 +226,12 @@ no_serve name rows is lacks = refuses
 
 tap_lacks : (rows : List Row) (options : TapOptions) → LacksOneOf rows tap_command.arguments
     → AsksToTap rows options → ⊥
-tap_lacks rows options (inl listen) asks = no_word rows (codes "listen") options.listen.now listen asks.0
-tap_lacks rows options (inr (inl target)) asks = no_word rows (codes "target") options.target.now target asks.1
-tap_lacks rows options (inr (inr (inl count))) asks = count options.count asks.2
-tap_lacks rows options (inr (inr (inr (inl shown)))) asks = shown options.style asks.3
-tap_lacks rows options (inr (inr (inr (inr none)))) asks = absurd none
+tap_lacks rows options (inl at_once) asks = no_word rows (codes "at-once") options.at_once.now at_once asks.2
+tap_lacks rows options (inr (inl listen)) asks = no_word rows (codes "listen") options.listen.now listen asks.0
+tap_lacks rows options (inr (inr (inl target))) asks = no_word rows (codes "target") options.target.now target asks.1
+tap_lacks rows options (inr (inr (inr (inl count)))) asks = count options.count asks.3
+tap_lacks rows options (inr (inr (inr (inr (inl shown))))) asks = shown options.style asks.4
+tap_lacks rows options (inr (inr (inr (inr (inr none))))) asks = absurd none
 
 pub no_tap : (name : Text) (rows : List Row) → name ≡ codes "tap" → LacksOneOf rows tap_command.arguments
     → CommandAsksNothing (Some (name, rows))
@@ -271,14 +276,16 @@ send_lacks : (rows : List Row) (options : SendOptions) → LacksOneOf rows send_
 send_lacks rows options (inl role) asks = role options.run.role asks.0.role
 send_lacks rows options (inr (inl expect)) asks = expect options.run.expect asks.0.expect
 send_lacks rows options (inr (inr (inl key))) asks = no_word rows (codes "key") options.run.key.now key asks.0.key
-send_lacks rows options (inr (inr (inr (inl timeout)))) asks = no_word rows (codes "timeout") asks.3.0 timeout asks.3.1
+send_lacks rows options (inr (inr (inr (inl timeout)))) asks = no_word rows (codes "timeout") asks.5.0 timeout asks.5.1
 send_lacks rows options (inr (inr (inr (inr more)))) asks =
     run_lacks rows options.run send_own none (inr (inr (inr (inr more)))) asks.0
   where
     none : LacksOneOf rows send_own → ⊥
     none (inl capture) = capture options.capture asks.1
     none (inr (inl shown)) = shown options.style asks.2
-    none (inr (inr other)) = absurd other
+    none (inr (inr (inl time))) = time options.time asks.3
+    none (inr (inr (inr (inl heads)))) = heads options.heads asks.4
+    none (inr (inr (inr (inr other)))) = absurd other
 
 pub no_send : (name : Text) (rows : List Row) → name ≡ codes "send" → LacksOneOf rows send_command.arguments
     → CommandAsksNothing (Some (name, rows))

@@ -13,7 +13,8 @@ use Rattle.clap.specs.declared.parser.matches.SubCommand.{SubCommand}
 use Rattle.clap.specs.declared.error.Error.{Error}
 use Rattle.clap.specs.declared.error.kind.ErrorKind.TheVariants.{OutOfMemory}
 use Rattle.wst_words.specs.Options.{GivesFlag, GivesNoEnd, GivesNoExpectation, GivesNoFlag, GivesNoNumber, GivesNoStyle}
-use Rattle.wst_words.specs.Options.{GivesNoNumberOr, GivesNumber, GivesNumberOf, GivesNumberOr}
+use Rattle.wst_words.specs.Options.{GivesCount, GivesCountIfAny, GivesNoCount, GivesNoCountIfAny, GivesNoNumberOr}
+use Rattle.wst_words.specs.Options.{GivesNumber, GivesNumberOf, GivesNumberOr}
 use Rattle.wst_words.specs.Words.{AsksFor, AsksForNothing, CommandAsks, CommandAsksNothing, IsOfClap, IsRead}
 use Rattle.wst_words.specs.Words.{RefusesWords}
 use Rattle.wst_words.specs.declared.words.Task.{Task}
@@ -119,6 +120,12 @@ number_or_given rows name other word None there none = refuses
     refuses any number (inl given) = none number given
     refuses any number (inr (left_out, same)) = no_word rows name word left_out there
 number_or_given rows name other word (Some number) there given = inl given
+
+-- where the word was met and gives no count, none is given, and it wasn't left out
+pub no_count_if_any : (rows : List Row) (name word : Text) → first_of name rows ≡ Some word → GivesNoCount rows name
+    → GivesNoCountIfAny rows name
+no_count_if_any rows name word there none None left_out = no_word rows name word left_out there
+no_count_if_any rows name word there none (Some count) given = none count given
 
 -- a flag is set or not exactly where a text is there that names a `bool`
 pub flag_given : (E : Type 0) (rows : List Row) (name : Text) (o : Option Text) (r : Option Bool)

@@ -6,9 +6,9 @@ use Rattle.clap.specs.declared.builder.action.ArgAction.TheVariants.{Append, Set
 use Rattle.clap.specs.declared.builder.value_parser.ValueParser.TheVariants.{Names, Signed, Unsigned}
 use Rattle.wst_words.specs.declared.arguments.Argument.{Argument}
 use Rattle.wst_words.specs.declared.arguments.ArgumentKind.{ArgumentKind}
-use Rattle.wst_words.specs.declared.arguments.ArgumentKind.TheVariants.{EachWord, End, Expected, Flag, FreeWord}
-use Rattle.wst_words.specs.declared.arguments.ArgumentKind.TheVariants.{NeededCount, NeededWord, Number, Style, Word}
-use Rattle.wst_words.specs.declared.arguments.ArgumentKind.TheVariants.{Words}
+use Rattle.wst_words.specs.declared.arguments.ArgumentKind.TheVariants.{EachWord, End, Expected, Flag, FreeCount}
+use Rattle.wst_words.specs.declared.arguments.ArgumentKind.TheVariants.{FreeWord, NeededWord, Number}
+use Rattle.wst_words.specs.declared.arguments.ArgumentKind.TheVariants.{Style, Word, Words}
 use Rattle.wst_words.specs.declared.arguments.NameParsers.{NameParsers}
 
 -- an argument: its name, its kind, and its value where it is left out
@@ -94,7 +94,7 @@ abbrev pub each_rule : Text → Rule
 each_rule name = record (new_rule name) { long = Some name; action = Some Append; value_names = 1 }
 
 -- an argument of this kind: an end, an expectation or a style as it is parsed, a number of 64 bits, any word, any word
--- each time that it is given, a flag, a word and a number of 32 bits that may not be left out, a word that may, as many
+-- each time that it is given, a flag, a word that may not be left out, a word and a number of 32 bits that may, as many
 -- words as there are
 abbrev pub kind_rule : NameParsers → ArgumentKind → Text → Rule
 kind_rule names End name = record (option_rule name) { parser = Some names.ends }
@@ -106,7 +106,7 @@ kind_rule names EachWord name = each_rule name
 kind_rule names Flag name = record (new_rule name) { long = Some name; action = Some SetTrue }
 kind_rule names NeededWord name = needed_rule name
 kind_rule names FreeWord name = free_rule name
-kind_rule names NeededCount name = record (needed_rule name) { parser = Some (Signed (pos 0) (pos 4294967295)) }
+kind_rule names FreeCount name = record (free_rule name) { parser = Some (Signed (pos 0) (pos 4294967295)) }
 kind_rule names Words name = record (new_rule name) { action = Some Append; value_names = 1 }
 
 -- a rule with this value where the argument is left out

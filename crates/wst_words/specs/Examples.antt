@@ -346,6 +346,17 @@ pub serve_address : (places : Places)
 unfolding on_words
 serve_address places = refl
 
+-- `wst serve localhost:9001` serves without an end, one connection at a time, each as long as it takes
+abbrev endless_words : List Text
+endless_words = words (codes "serve" ∷ codes "localhost:9001" ∷ [])
+
+pub serve_endless : (places : Places)
+    → option_map (λ met. first_of (codes "count") met.1 ∷ first_of (codes "at-once") met.1
+    ∷ first_of (codes "deadline") met.1 ∷ []) (subcommand_of (wst_app places) endless_words)
+    ≡ Some (None ∷ Some (codes "1") ∷ None ∷ [])
+unfolding on_words
+serve_endless places = refl
+
 -- `wst test --timeout 02 --progress own`: how long a byte is waited for is a word here; the budget is 64 MiB
 abbrev waiting_words : List Text
 waiting_words = words (codes "test" ∷ codes "--timeout" ∷ codes "02" ∷ codes "--progress" ∷ codes "own" ∷ [])
@@ -419,8 +430,8 @@ pub asking_words_are_taken : (places : Places)
     → map (takes (wst_app places)) (plain_words ∷ client_words ∷ head_words ∷ protocol_words ∷ no_protocol_words
     ∷ session_words ∷ echo_words ∷ judge_words ∷ convert_words ∷ cases_words ∷ some_cases_words ∷ test_words
     ∷ titles_words ∷ serve_words ∷ waiting_words ∷ client_test_words ∷ known_words ∷ client_wait_words
-    ∷ deadline_words ∷ [])
+    ∷ deadline_words ∷ endless_words ∷ [])
     ≡ true ∷ true ∷ true ∷ true ∷ true ∷ true ∷ true ∷ true ∷ true ∷ true ∷ true ∷ true ∷ true ∷ true ∷ true ∷ true
-    ∷ true ∷ true ∷ true ∷ []
+    ∷ true ∷ true ∷ true ∷ true ∷ []
 unfolding on_words
 asking_words_are_taken places = refl

@@ -64,12 +64,12 @@ pub test_of_no_end : (places : Places)
 unfolding on_words
 test_of_no_end places = refl
 
--- `wst serve localhost:9001`: no count
-pub serve_without_count : (places : Places)
-    → fault_of (wst_app places) (words (codes "serve" ∷ codes "localhost:9001" ∷ []))
+-- `wst serve --at-once 2`: no address
+pub serve_nowhere : (places : Places)
+    → fault_of (wst_app places) (words (codes "serve" ∷ codes "--at-once" ∷ codes "2" ∷ []))
     ≡ MissingRequiredArgument ∷ []
 unfolding on_words
-serve_without_count places = refl
+serve_nowhere places = refl
 
 -- `wst serve localhost:9001 4294967296`: no number of 32 bits
 pub serve_too_often : (places : Places)

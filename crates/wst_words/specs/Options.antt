@@ -14,7 +14,7 @@ use Rattle.ws_frame.specs.declared.source.DataStyle.TheVariants as style
 use Rattle.ws_scripts.specs.declared.expectation.Expectation.{Expectation}
 use Rattle.ws_scripts.specs.declared.expectation.Expectation.TheVariants.{Echo, Protocol}
 use Rattle.wst_words.specs.declared.arguments.ArgumentKind.TheVariants.{EachWord, End, Expected, Flag, FreeWord}
-use Rattle.wst_words.specs.declared.arguments.ArgumentKind.TheVariants.{NeededCount}
+use Rattle.wst_words.specs.declared.arguments.ArgumentKind.TheVariants.{FreeCount}
 use Rattle.wst_words.specs.declared.arguments.ArgumentKind.TheVariants.{NeededWord, Number, Style, Word, Words}
 
 -- ---- an end of the connection
@@ -111,6 +111,11 @@ GivesNumberIfAny rows name (Some number) = GivesNumber rows name number
 abbrev pub GivesCount : List Row → Text → ℕ → Type 0
 GivesCount rows name number = GivesNumberOf 32 rows name number
 
+-- the word of this name gives this count, or it is left out and there is none
+abbrev pub GivesCountIfAny : List Row → Text → Option ℕ → Type 0
+GivesCountIfAny rows name None = first_of name rows ≡ None
+GivesCountIfAny rows name (Some count) = GivesCount rows name count
+
 -- and it gives none
 abbrev pub GivesNoNumber : List Row → Text → Type 0
 GivesNoNumber rows name = (number : ℕ) → GivesNumber rows name number → ⊥
@@ -121,6 +126,10 @@ GivesNoNumberOr rows name = (other number : ℕ) → GivesNumberOr other rows na
 
 abbrev pub GivesNoCount : List Row → Text → Type 0
 GivesNoCount rows name = (number : ℕ) → GivesCount rows name number → ⊥
+
+-- nor is it left out
+abbrev pub GivesNoCountIfAny : List Row → Text → Type 0
+GivesNoCountIfAny rows name = (count : Option ℕ) → GivesCountIfAny rows name count → ⊥
 
 -- ---- a flag
 
@@ -151,7 +160,7 @@ LacksValueOf rows name EachWord default = ⊥
 LacksValueOf rows name Flag default = GivesNoFlag rows name
 LacksValueOf rows name NeededWord default = first_of name rows ≡ None
 LacksValueOf rows name FreeWord default = ⊥
-LacksValueOf rows name NeededCount default = GivesNoCount rows name
+LacksValueOf rows name FreeCount default = GivesNoCountIfAny rows name
 LacksValueOf rows name Words default = ⊥
 
 -- one of the arguments does

@@ -13,11 +13,13 @@ abbrev pub send_command : CommandRow
 send_command = record {
   name = codes "send";
   arguments = run_arguments (argument_or (codes "timeout") Word (codes "2")) ++ argument (codes "capture") Flag
-      ∷ argument_or (codes "data") Style (codes "hex") ∷ [];
+      ∷ argument_or (codes "data") Style (codes "hex") ∷ argument (codes "time") Flag
+      ∷ argument (codes "heads") Flag ∷ [];
 }
 
 -- the words give these, and how long is waited for
 abbrev pub AsksToSend : List Row → SendOptions → Type 0
 AsksToSend rows options = AsksForRun rows options.run × GivesFlag rows (codes "capture") options.capture
-    × GivesStyle rows (codes "data") options.style
+    × GivesStyle rows (codes "data") options.style × GivesFlag rows (codes "time") options.time
+    × GivesFlag rows (codes "heads") options.heads
     × ((seconds : Text) × (first_of (codes "timeout") rows ≡ Some seconds))

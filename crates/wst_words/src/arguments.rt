@@ -30,8 +30,8 @@ pub(crate) enum ArgumentKind {
     NeededWord,
     /// Any word, which may be left out.
     FreeWord,
-    /// A number of 32 bits, which may not be left out.
-    NeededCount,
+    /// A number of 32 bits, which may be left out.
+    FreeCount,
     /// The words that are left, as many as there are.
     Words,
 }
@@ -97,9 +97,7 @@ fn arg_of_kind<'a>(alloc: Global, argument: &Argument, names: NameParsers<'a>) -
             .action(ArgAction::SetTrue),
         ArgumentKind::NeededWord => needed_arg(alloc, argument),
         ArgumentKind::FreeWord => free_arg(alloc, argument),
-        ArgumentKind::NeededCount => {
-            needed_arg(alloc, argument).value_parser(clap::value_parser!(u32))
-        }
+        ArgumentKind::FreeCount => free_arg(alloc, argument).value_parser(clap::value_parser!(u32)),
         ArgumentKind::Words => Arg::new(alloc, argument.name)
             .value_name(argument.value_name)
             .help(argument.help)

@@ -5,7 +5,7 @@ ghost use Rattle.clap.specs.Words.{first_of, found_of, rows_of};
 ghost use Rattle.wst_words.specs.Options.{GivesCount, GivesEnd, GivesFlag, GivesNumber, GivesNumberOr};
 ghost use Rattle.wst_words.specs.Options.{GivesNoCount, GivesNoEnd, GivesNoFlag, GivesNoNumber, GivesNoNumberOr};
 ghost use Rattle.wst_words.specs.Options.{GivesEndIfAny, GivesExpectation, GivesNoExpectation, GivesNumberIfAny};
-ghost use Rattle.wst_words.specs.Options.{GivesNoStyle, GivesStyle};
+ghost use Rattle.wst_words.specs.Options.{GivesCountIfAny, GivesNoCountIfAny, GivesNoStyle, GivesStyle};
 ghost use Rattle.wst_words.specs.Options.{expectation_named, given_words, role_named, style_named};
 
 use clap::ArgMatches;
@@ -90,6 +90,20 @@ pub(crate) fn count_of(options: &ArgMatches<'_>, name: &str) -> Option<u32>
         (GivesCount (rows_of (found_of options.now)) name.now) }
 {
     options.get_one::<u32>(name)
+}
+
+/// The count that the word of this name gives, where it is given. `None` where it gives none.
+pub(crate) fn count_if_any(options: &ArgMatches<'_>, name: &str) -> Option<Option<u32>>
+    ensures { MatchOption result (GivesNoCountIfAny (rows_of (found_of options.now)) name.now)
+        (GivesCountIfAny (rows_of (found_of options.now)) name.now) }
+{
+    match word_of(options, name) {
+        None => Some(None),
+        Some(_) => match count_of(options, name) {
+            None => None,
+            Some(count) => Some(Some(count)),
+        },
+    }
 }
 
 /// Whether the flag of this name is set. `None` where it has no value.

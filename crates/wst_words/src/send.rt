@@ -29,10 +29,14 @@ pub struct SendOptions<'a> {
     pub capture: bool,
     /// How payloads are shown.
     pub style: DataStyle,
+    /// Each line stands behind the time since the connection began.
+    pub time: bool,
+    /// The lines of both heads are written too.
+    pub heads: bool,
 }
 
 /// Its arguments.
-static ARGUMENTS: [Argument; 13] = [
+static ARGUMENTS: [Argument; 15] = [
     ROLE,
     EXPECT,
     KEY,
@@ -62,6 +66,22 @@ static ARGUMENTS: [Argument; 13] = [
     Argument {
         heading: Some("Output"),
         ..DATA
+    },
+    Argument {
+        name: "time",
+        kind: Flag,
+        default: None,
+        value_name: "",
+        heading: Some("Output"),
+        help: "Begin each line with the seconds since connecting",
+    },
+    Argument {
+        name: "heads",
+        kind: Flag,
+        default: None,
+        value_name: "",
+        heading: Some("Output"),
+        help: "Print the request and the response too",
     },
 ];
 
@@ -97,10 +117,14 @@ fn options_with<'a>(options: &ArgMatches<'a>, run: RunOptions<'a>) -> Option<Sen
     let _seconds = word_of(options, "timeout")?;
     let capture = flag_of(options, "capture")?;
     let style = style_of(options, "data")?;
+    let time = flag_of(options, "time")?;
+    let heads = flag_of(options, "heads")?;
     Some(SendOptions {
         run,
         capture,
         style,
+        time,
+        heads,
     })
 }
 

@@ -7,9 +7,9 @@ ghost use Rattle.wst_words.specs.Serve.{AsksToServe, serve_command};
 ghost use Rattle.wst_words.specs.Arguments.{argument_row};
 
 use crate::arguments::Argument;
-use crate::arguments::ArgumentKind::{NeededCount, NeededWord, Number, Word};
+use crate::arguments::ArgumentKind::{FreeCount, NeededWord, Number, Word};
 use crate::commands::HelpText;
-use crate::options::{count_of, number_of, number_or, word_of};
+use crate::options::{count_if_any, number_of, number_or, word_of};
 use clap::ArgMatches;
 
 /// What `serve` is asked to serve.
@@ -23,16 +23,20 @@ pub struct ServeOptions<'a> {
     pub budget: u64,
     /// It ends a connection on which no byte has come for so many seconds, as a word, where that is given.
     pub timeout: Option<&'a str>,
+    /// It ends a connection that has lasted for so many seconds, as a word, where that is given.
+    pub deadline: Option<&'a str>,
+    /// It serves so many connections at a time, as a word.
+    pub at_once: &'a str,
     /// The subprotocols that it knows, joined by commas, where they are given.
     pub protocols: Option<&'a str>,
     /// The address at which it listens: an IP address or the name of a host, and a port.
     pub address: &'a str,
-    /// It serves so many connections.
-    pub count: u32,
+    /// It serves so many connections, or goes on until it is ended where no count is given.
+    pub count: Option<u32>,
 }
 
 /// Its arguments.
-static ARGUMENTS: [Argument; 7] = [
+static ARGUMENTS: [Argument; 9] = [
     Argument {
         name: "limit",
         kind: Number,
@@ -66,6 +70,22 @@ static ARGUMENTS: [Argument; 7] = [
         help: "Seconds of silence that end a connection, 1 to 3600\n[default: no limit]",
     },
     Argument {
+        name: "deadline",
+        kind: Word,
+        default: None,
+        value_name: "SECONDS",
+        heading: None,
+        help: "Longest connection, 1 to 86400 [default: no limit]",
+    },
+    Argument {
+        name: "at-once",
+        kind: Word,
+        default: Some("1"),
+        value_name: "N",
+        heading: None,
+        help: "Connections at a time, 1 to 1000",
+    },
+    Argument {
         name: "protocols",
         kind: Word,
         default: None,
@@ -83,11 +103,11 @@ static ARGUMENTS: [Argument; 7] = [
     },
     Argument {
         name: "count",
-        kind: NeededCount,
+        kind: FreeCount,
         default: None,
         value_name: "COUNT",
         heading: None,
-        help: "How many connections to serve, one after the other",
+        help: "Stop after COUNT connections [default: never]",
     },
 ];
 
@@ -107,12 +127,15 @@ pub(crate) fn serve_options<'a>(options: &ArgMatches<'a>) -> Option<ServeOptions
     let frame = number_or(options, "frame", limit)?;
     let budget = number_of(options, "budget")?;
     let address = word_of(options, "address")?;
-    let count = count_of(options, "count")?;
+    let count = count_if_any(options, "count")?;
+    let at_once = word_of(options, "at-once")?;
     Some(ServeOptions {
         limit,
         frame,
         budget,
         timeout: word_of(options, "timeout"),
+        deadline: word_of(options, "deadline"),
+        at_once,
         protocols: word_of(options, "protocols"),
         address,
         count,
@@ -131,7 +154,7 @@ pub(crate) fn help<'a>() -> HelpText<'a> {
 /// What follows the options of `serve`.
 const AFTER_HELP: &str =
     "Each message is sent back. `listening on ADDR` is printed first, and then a line
-for each connection that has ended. Other clients wait meanwhile.
+for each connection that has ended. Beyond N connections, clients wait.
 
 Exit status:
   0  COUNT connections were served, however they ended
@@ -143,5 +166,5 @@ Examples:
   wst serve 127.0.0.1:9001 1 & sleep 1; curl -s http://127.0.0.1:9001/
   # a test case
   wst serve 127.0.0.1:9001 1 & sleep 1; wst test 127.0.0.1:9001 1.1.1
-  # for a browser: new WebSocket('ws://localhost:9001')
-  wst serve --timeout 60 localhost:9001 100";
+  # for a browser: new WebSocket('ws://localhost:9001'); Ctrl-C ends it
+  wst serve --at-once 16 localhost:9001";

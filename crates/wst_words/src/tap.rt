@@ -7,9 +7,9 @@ ghost use Rattle.wst_words.specs.Tap.{AsksToTap, tap_command};
 ghost use Rattle.wst_words.specs.Arguments.{argument_row};
 
 use crate::arguments::Argument;
-use crate::arguments::ArgumentKind::{NeededCount, NeededWord};
+use crate::arguments::ArgumentKind::{FreeCount, NeededWord, Word};
 use crate::commands::HelpText;
-use crate::options::{count_of, style_of, word_of};
+use crate::options::{count_if_any, style_of, word_of};
 use crate::show::DATA;
 use clap::ArgMatches;
 use ws_frame::DataStyle;
@@ -21,14 +21,24 @@ pub struct TapOptions<'a> {
     pub listen: &'a str,
     /// The server to which it passes what its clients send: an address, or a `ws` URL.
     pub target: &'a str,
-    /// It taps so many connections.
-    pub count: u32,
+    /// It taps so many connections at a time, as a word.
+    pub at_once: &'a str,
+    /// It taps so many connections, or goes on until it is ended where no count is given.
+    pub count: Option<u32>,
     /// How payloads are shown.
     pub style: DataStyle,
 }
 
 /// Its arguments.
-static ARGUMENTS: [Argument; 4] = [
+static ARGUMENTS: [Argument; 5] = [
+    Argument {
+        name: "at-once",
+        kind: Word,
+        default: Some("1"),
+        value_name: "N",
+        heading: None,
+        help: "Connections at a time, 1 to 1000",
+    },
     Argument {
         name: "listen",
         kind: NeededWord,
@@ -47,11 +57,11 @@ static ARGUMENTS: [Argument; 4] = [
     },
     Argument {
         name: "count",
-        kind: NeededCount,
+        kind: FreeCount,
         default: None,
         value_name: "COUNT",
         heading: None,
-        help: "How many connections to forward, one after the other",
+        help: "Stop after COUNT connections [default: never]",
     },
     DATA,
 ];
@@ -70,11 +80,13 @@ pub(crate) fn tap_options<'a>(options: &ArgMatches<'a>) -> Option<TapOptions<'a>
 {
     let listen = word_of(options, "listen")?;
     let target = word_of(options, "target")?;
-    let count = count_of(options, "count")?;
+    let at_once = word_of(options, "at-once")?;
+    let count = count_if_any(options, "count")?;
     let style = style_of(options, "data")?;
     Some(TapOptions {
         listen,
         target,
+        at_once,
         count,
         style,
     })
@@ -106,5 +118,5 @@ Examples:
   # between a test case and an echo
   wst serve 127.0.0.1:9001 1 & wst tap 127.0.0.1:9002 127.0.0.1:9001 1 &
   sleep 1; wst test 127.0.0.1:9002 1.1.2
-  # only the client's lines
-  wst tap localhost:9002 localhost:9001 100 | grep ' > '";
+  # only what browsers send, to a server at port 9001; Ctrl-C ends it
+  wst tap --at-once 16 localhost:9002 localhost:9001 | grep ' > '";

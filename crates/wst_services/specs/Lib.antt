@@ -1,0 +1,3 @@
+pub mod ServedLines
+pub mod Serve
+pub mod Tapping
