@@ -1,0 +1,2 @@
+pub mod HeadWriting
+pub mod TimedLines
