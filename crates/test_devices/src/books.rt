@@ -1,13 +1,11 @@
 //! What the network of a row does, and what came of it.
 
 use crate::memory_net::Book;
-use crate::row_fault::RowFault;
-use crate::words::{asks_for, failing_of, number_or, value_of};
 use std::alloc::Global;
-use std::fmt::Write;
 use std::io;
 use std::io::ErrorKind;
-use ws_formats::Hex;
+use test_device_calls::{asks_for, failing_of, number_or, value_of};
+use test_row_frames::{RowFault, put, put_hex, put_number};
 use ws_frame::Failing;
 
 /// A network whose connections bring these bytes: `net-reads=`, `net-writes=` and `net-waits=` say which calls of each
@@ -70,28 +68,28 @@ fn kind_of(word: &str) -> Result<ErrorKind, RowFault> {
 pub fn put_book(words: &[&str], book: &Book<'_>, out: &mut String) -> Result<(), RowFault> {
     if asks_for(words, "+net") {
         let (asked, ended) = (book.asked.get(), book.ended.get());
-        write!(out, ", {asked} asked, {ended} ended")?;
+        put_number(out, ", ", asked)?;
+        put_number(out, " asked, ", ended)?;
+        put(out, " ended")?;
     }
     if asks_for(words, "+net-reads") {
-        write!(out, ", {} net reads", book.read.get())?;
+        put_number(out, ", ", book.read.get())?;
+        put(out, " net reads")?;
     }
     if asks_for(words, "+seconds") {
-        let (connect, read) = (book.connect_seconds.get(), book.read_seconds.get());
-        write!(
-            out,
-            ", seconds {connect} {read} {}",
-            book.write_seconds.get()
-        )?;
+        put_number(out, ", seconds ", book.connect_seconds.get())?;
+        put_number(out, " ", book.read_seconds.get())?;
+        put_number(out, " ", book.write_seconds.get())?;
     }
     if asks_for(words, "+notices") {
         match book.noted.try_borrow() {
-            Ok(noted) => write!(out, ", notices {}", Hex(noted.as_slice()))?,
+            Ok(noted) => put_hex(out, ", notices ", noted.as_slice())?,
             Err(_) => return Err(RowFault::NotARow),
         }
     }
     if asks_for(words, "+sent") {
         match book.written.try_borrow() {
-            Ok(written) => write!(out, ", sent {}", Hex(written.as_slice()))?,
+            Ok(written) => put_hex(out, ", sent ", written.as_slice())?,
             Err(_) => return Err(RowFault::NotARow),
         }
     }

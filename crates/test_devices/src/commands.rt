@@ -1,18 +1,16 @@
 //! Rows of whole runs of `wst` over devices and over a network in memory.
 
-use crate::answers::{put_reads, put_writes};
 use crate::books::{book_of, put_book};
-use crate::devices::{sink_of, source_of};
 use crate::memory_net::MemoryNet;
 use crate::memory_network::MemoryConnector;
-use crate::row_fault::RowFault;
-use crate::words::{asks_for, bytes_of, number_or, pieces_of, value_of};
 use std::alloc::Global;
 use std::cell::RefCell;
-use std::fmt::Write;
-use ws_formats::Hex;
+use test_device_calls::{
+    asks_for, number_or, pieces_of, put_reads, put_writes, sink_of, source_of, value_of,
+};
+use test_row_frames::{RowFault, bytes_of, put_hex, put_number};
 use ws_frame::{Counting, Watched};
-use wst_run::{run, words_are_no_text};
+use wst_run::{Site, run, words_are_no_text};
 
 /// `run SETTING .. WORDS INPUT`: the status of a run of these words, what it wrote, how often both devices were asked,
 /// and what it told on the fault output, which takes at most `faults-room=` bytes, unless `+nofaults` says that this
@@ -34,24 +32,17 @@ pub fn run_command(alloc: Global, words: &[&str], out: &mut String) -> Result<()
     let brought = brought_by(alloc, settings)?;
     let book = book_of(alloc, settings, brought.as_slice())?;
     let net = MemoryNet { book: &book };
-    let exit = run(
+    let site = Site {
         alloc,
-        line.as_slice(),
-        &net,
-        &MemoryConnector { book: &book },
-        &mut reader,
-        &mut writer,
-        &mut faults,
-    );
-    write!(out, "status {}", exit.status())?;
+        net: &net,
+        connector: &MemoryConnector { book: &book },
+    };
+    let exit = run(site, line.as_slice(), &mut reader, &mut writer, &mut faults);
+    put_number(out, "status ", u64::from(exit.status()))?;
     put_writes(settings, writer, out)?;
     put_reads(settings, reader, out)?;
     if !asks_for(settings, "+nofaults") {
-        write!(
-            out,
-            ", faults {}",
-            Hex(faults.into_inner().taken.as_slice())
-        )?;
+        put_hex(out, ", faults ", faults.into_inner().taken.as_slice())?;
     }
     put_book(settings, &book, out)
 }
@@ -84,7 +75,6 @@ pub fn tell_no_words(alloc: Global, words: &[&str], out: &mut String) -> Result<
     };
     let mut faults = Watched::new(Vec::new(alloc));
     let exit = words_are_no_text(alloc, true, &mut faults);
-    write!(out, "status {}", exit.status())?;
-    write!(out, ", faults {}", Hex(faults.into_inner().as_slice()))?;
-    Ok(())
+    put_number(out, "status ", u64::from(exit.status()))?;
+    put_hex(out, ", faults ", faults.into_inner().as_slice())
 }

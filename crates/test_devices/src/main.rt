@@ -4,29 +4,15 @@
 //! and `rows/run` compares the answers with those that are wanted.
 #![tactic(auto)]
 
-mod answers;
 mod books;
 mod commands;
-mod devices;
-mod handshakes;
-mod lanes;
 mod memory_net;
 mod memory_network;
-mod memory_stage;
-mod probes;
-mod row_fault;
-mod stages;
-mod stream_calls;
-mod streams;
-mod taps;
-mod transcripts;
-mod watching;
-mod words;
 
-use row_fault::RowFault;
 use std::alloc::Global;
 use std::io;
 use std::process::ExitCode;
+use test_row_frames::RowFault;
 
 fn main(rt: HostRuntime) -> io::Result<ExitCode> {
     let rows = io::read_to_string(rt.alloc(), rt.stdin())?;
@@ -55,36 +41,26 @@ fn answer_words(alloc: Global, words: &[&str], out: &mut String) -> Result<(), R
     let [call, words @ ..] = words else {
         return Err(RowFault::NotARow);
     };
-    match *call {
-        "watched_reads" => watching::read_watched(alloc, words, out),
-        "watched_writes" => watching::write_watched(alloc, words, out),
-        "write_whole" => watching::write_texts(alloc, words, out),
-        "read_input" => streams::read_all(alloc, words, out),
-        "show" => streams::show_frames(alloc, words, out),
-        "drive" => streams::drive_echo(alloc, words, out),
-        "lanes" => lanes::compare_lanes(words, out),
-        "transcripts" => transcripts::count_alike(alloc, words, out),
-        _ => answer_of_connections(alloc, call, words, out),
+    let is_answered = test_device_calls::answer(alloc, call, words, out)?
+        || answer_of_runs(alloc, call, words, out)?;
+    if is_answered {
+        Ok(())
+    } else {
+        Err(RowFault::NotARow)
     }
 }
 
-/// Puts the answer of a call of connections, or of a whole run.
-fn answer_of_connections(
+/// Puts the answer of a whole run, where the call is one. Answers whether it is.
+fn answer_of_runs(
     alloc: Global,
     call: &str,
     words: &[&str],
     out: &mut String,
-) -> Result<(), RowFault> {
+) -> Result<bool, RowFault> {
     match call {
-        "run" => commands::run_command(alloc, words, out),
-        "no_words" => commands::tell_no_words(alloc, words, out),
-        "read_head" => handshakes::read_a_head(alloc, words, out),
-        "serve" => handshakes::serve_connection(alloc, words, out),
-        "probe" => probes::probe_server(alloc, words, out),
-        "staged" => stages::run_staged(alloc, words, out),
-        "stream" => stream_calls::call_stream(alloc, words, out),
-        "exchange" => stream_calls::run_exchange(alloc, words, out),
-        "tap" => taps::tap_devices(alloc, words, out),
-        _ => Err(RowFault::NotARow),
+        "run" => commands::run_command(alloc, words, out)?,
+        "no_words" => commands::tell_no_words(alloc, words, out)?,
+        _ => return Ok(false),
     }
+    Ok(true)
 }

@@ -1,6 +1,6 @@
 //! Which row is answered by which call.
 
-use crate::{admissions, machine_runs, probes, testers};
+use crate::{admissions, echoes, machine_runs, probes, testers};
 use std::alloc::Global;
 use test_row_frames::RowFault;
 
@@ -15,6 +15,7 @@ pub fn answer(
         "tester" => testers::tell_tester(alloc, words, out)?,
         "exchange" => machine_runs::run_exchange(alloc, words, out)?,
         "admit" => admissions::tell_admission(alloc, words, out)?,
+        "echoing" => echoes::tell_echo(alloc, words, out)?,
         "probe" => probes::tell_probe(alloc, words, out)?,
         "test_over" => machine_runs::run_tester(alloc, words, out)?,
         _ => return Ok(false),

@@ -11,7 +11,7 @@ use std::process::ExitCode;
 use std::{env, io};
 use ws_frame::Watched;
 use wst_network::SystemConnector;
-use wst_run::{run, words_are_no_text};
+use wst_run::{Site, run, words_are_no_text};
 use wst_sockets::Resumed;
 
 /// The status of a device that failed, for a stack that is not there.
@@ -27,15 +27,14 @@ fn main(rt: HostRuntime) -> ExitCode {
     let mut faults = Watched::new(Resumed::of(rt.stderr()));
     let alloc = rt.alloc();
     let exit = match arguments(&rt) {
-        Ok(words) => run(
-            alloc,
-            words.as_slice(),
-            &rt,
-            &SystemConnector::of(&rt),
-            &mut input,
-            &mut output,
-            &mut faults,
-        ),
+        Ok(words) => {
+            let site = Site {
+                alloc,
+                net: &rt,
+                connector: &SystemConnector::of(&rt),
+            };
+            run(site, words.as_slice(), &mut input, &mut output, &mut faults)
+        }
         Err(error) => {
             let no_memory = error.kind() == ErrorKind::OutOfMemory;
             words_are_no_text(alloc, no_memory, &mut faults)

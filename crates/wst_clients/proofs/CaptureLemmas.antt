@@ -9,13 +9,11 @@ use Rattle.ws_paths.specs.declared.purpose.Purpose.{Purpose}
 use Rattle.ws_scripts.specs.declared.expectation.Expectation.{Expectation}
 use Rattle.ws_scripts.specs.declared.script.Case.{Case}
 use Rattle.ws_scripts.specs.declared.transcript.Transcript.{Transcript}
-use Rattle.ws_wire.specs.declared.role.Role.{Role}
 use Rattle.ws_wire.specs.declared.role.Role.TheVariants.{Client}
 use Rattle.wst_commands.specs.declared.exit.Exit.{Exit}
 use Rattle.wst_commands.specs.declared.fault.Fault.{Fault}
 use Rattle.wst_commands.specs.declared.fault.Fault.TheVariants.{NoMemory}
 use Rattle.wst_testing.specs.Testing.{WritesCapture, run_capture}
-use Rattle.wst_testing.specs.declared.testing.RunRules.{RunRules}
 use Rattle.wst_clients.specs.ClientCaptures.{CapturesClient, WritesLast, WritesTaken, first_standing}
 use Rattle.wst_clients.specs.ClientTests.{IsVisitFault}
 use Rattle.wst_clients.specs.Turns.{TakesNext}
@@ -26,18 +24,13 @@ use Rattle.wst_clients.specs.declared.visiting.Visit.{Visit}
 use Rattle.wst_clients.specs.declared.visiting.Visit.TheVariants as visit
 use Rattle.wst_clients.specs.declared.visiting.VisitRules.{VisitRules}
 
--- the capture of a run by rules for a client is that of the turn
-pub last_captured : (rules : RunRules) (expected : Expectation) (case : Case) (came : Visit) (purpose : Purpose)
-    (transcript : Transcript) (exit : Exit) (output : Device) → rules.tested ≡ Client → rules.expected ≡ expected
-    → came ≡ visit.Ran purpose transcript
-    → WritesCapture rules.tested rules.expected (run_capture rules.tested rules.key transcript) exit output
+-- the capture of a run over a client is that of the turn
+pub last_captured : (expected : Expectation) (case : Case) (came : Visit) (purpose : Purpose) (transcript : Transcript)
+    (key : List ℕ) (exit : Exit) (output : Device) → came ≡ visit.Ran purpose transcript
+    → WritesCapture Client expected (run_capture Client key transcript) exit output
     → WritesLast expected case came exit output
-last_captured rules expected case came purpose transcript exit output client same is writes =
-    subst (λ (v : Visit). WritesLast expected case v exit output) (sym is)
-    (subst (λ (r : Role). WritesCapture r expected (run_capture r rules.key transcript) exit output) client
-    (subst
-    (λ (x : Expectation). WritesCapture rules.tested x (run_capture rules.tested rules.key transcript) exit output)
-    same writes))
+last_captured expected case came purpose transcript key exit output is writes =
+    subst (λ (v : Visit). WritesLast expected case v exit output) (sym is) writes
 
 -- of a turn that was taken, or of none, the same is written
 pub taken_written : (expected : Expectation) (case : Case) (taken said : Result Visit NoVisit) (ended : Result Exit Fault)

@@ -772,12 +772,6 @@ counts_step telling counted next case behavior.Failed is =
       omega (arith, failures),
     )
 
-pub not_run_few : (case : Case) (behavior : Behavior) → length (not_run_if case behavior) ≤ 1
-not_run_few case Unimplemented = omega arith
-not_run_few case behavior.Ok = omega arith
-not_run_few case behavior.NonStrict = omega arith
-not_run_few case behavior.Failed = omega arith
-
 -- Behind enough failures: what was written of the turns, and then what stands behind them, or memory ran out for
 -- that: `Same` and `Untold` say that nothing was written then, and nothing told. `f` and `g` say whether the fault output
 -- had failed before what was told last and since, which held `a`, then `b`, then `c`.

@@ -73,15 +73,6 @@ apart_more (x ∷ waiting) w nobody (far, apart) = (
   apart_more waiting w (All-tail (λ (v : Waiting). v.at ≡ w.at → ⊥) x waiting nobody) apart,
 )
 
--- where nobody waits
-pub held_none : {M L P E S W : Type 0} (did : S → S → List Deed → Type 0) (v : Visitors M L P E S W)
-    → v.waiting.items ≡ [] → AreHeld did v
-held_none did v none = record {
-  each = subst (λ (l : List Waiting). EachHeld did v.clients.known v.clients.held l) (sym none)
-      (All-nil (λ (w : Waiting). IsAcceptedAt did v.clients.known v.clients.held w.at w.request));
-  apart = subst (λ (l : List Waiting). AreApart l) (sym none) tt;
-}
-
 module _ {M L P E S W : Type 0} (did : S → S → List Deed → Type 0) (old new : Visitors M L P E S W) where
   held_by : new.clients.known ≡ old.clients.known → new.waiting ≡ old.waiting
       → EachHeld did old.clients.known new.clients.held old.waiting.items → AreHeld did old → AreHeld did new
@@ -194,8 +185,9 @@ module _ {M L P E S W : Type 0} (did : S → S → List Deed → Type 0) (old mi
       (held_next did old mid stay held are)
 
   -- or memory ran out for it
-  pub held_gone : (at : ℕ) → event ≡ events.Gone at → StayHeldBut did at mid new → AreHeld did new
-  held_gone at is keeps = keeps
+  pub held_gone : (at : ℕ) (number : Option ℕ) → event ≡ events.Gone at number → StayHeldBut did at mid new
+      → AreHeld did new
+  held_gone at number is keeps = keeps
       (nobody_told at (subst (λ (e : Event E W). IsNewlyHeld old.clients.held e) is fresh))
       (held_next did old mid stay held are)
 

@@ -5,7 +5,6 @@ use Rattle.std.proofs.KnownBytes.{Appends-trans, Keeps-refl}
 use Rattle.std.proofs.lemmas.Grind.{flat_map-append}
 use Rattle.std.proofs.lemmas.List.Folds.{concat-append}
 use Rattle.std.specs.Bool.{⊤}
-use Rattle.std.specs.Borrow.{GName}
 use Rattle.std.specs.List.{concat}
 use Rattle.std.specs.Prelude.{Vec}
 use Rattle.std.specs.declared.alloc.Global.{Global}
@@ -15,13 +14,12 @@ use Rattle.ws_frame.specs.declared.watching.Watched.{Watched}
 use Rattle.ws_clients.specs.Clients.{HasBecome, HasLines, HoldsBehind, IsHeldAt, IsPlayEnd, IsPlaying, KeepsPlays}
 use Rattle.ws_clients.specs.Clients.{PlaysOn, StandsWhere, line_told, lines_told}
 use Rattle.ws_clients.specs.declared.clients.Event.{Event}
-use Rattle.ws_clients.specs.declared.clients.Event.TheVariants.{Deaf, Decided, Gone, Played, TooLate}
+use Rattle.ws_clients.specs.declared.clients.Event.TheVariants.{Deaf, Decided, Full, Gone, Played, TooLate}
 use Rattle.ws_clients.specs.declared.talking.Talk.{Talk}
 use Rattle.ws_loops.proofs.RunLemmas.{shown_then}
-use Rattle.ws_loops.proofs.SinkLemmas.{lines_own, lines_then, own_then, put_nothing, put_then, said_then}
+use Rattle.ws_loops.proofs.SinkLemmas.{lines_then, put_nothing, put_then}
 use Rattle.ws_loops.specs.Deeds.{Deed, Happened, all_done, all_shown, all_told, told_by}
-use Rattle.ws_loops.specs.Sinks.{HasTakenLines, lines_at, said_at}
-use Rattle.ws_networks.specs.Connecting.{only_place}
+use Rattle.ws_loops.specs.Sinks.{HasTakenLines, lines_at}
 use Rattle.ws_loops.specs.declared.places.Place.{Place}
 use Rattle.ws_loops.specs.Listeners.{AcceptDeed}
 use Rattle.ws_loops.specs.declared.fault.LoopFault.{LoopFault}
@@ -40,7 +38,7 @@ use Rattle.wst_commands.specs.declared.fault.Fault.{Fault}
 use Rattle.wst_sockets.specs.Meetings.{miss_line}
 use Rattle.wst_sockets.specs.declared.meeting.ConnectFault.TheVariants.{TimedOut}
 use Rattle.wst_testing.proofs.OutputLemmas.{none_taken, wrote_run}
-use Rattle.wst_clients.specs.declared.placed_output.PlacedOutput.{PlacedOutput}
+use Rattle.wst_testing.specs.declared.line_output.LineOutput.{LineOutput}
 use Rattle.wst_testing.specs.LineOutputs.{HasWrittenTaken, WritesRest}
 use Rattle.wst_testing.specs.LineWriting.{HasWrittenRun}
 use Rattle.wst_testing.specs.Notes.{TellsEach}
@@ -49,7 +47,6 @@ use Rattle.wst_clients.specs.ClientSends.{IsRequestOf, IsRunAt, IsRunFrom, IsSen
 use Rattle.wst_clients.specs.ClientSends.{MayBeMissed, PassesUnsent, ScriptsFirst, ScriptsOver, SeeksFirst}
 use Rattle.wst_clients.specs.ClientSends.{TakesAccepted, TellsNothingOf}
 use Rattle.wst_clients.specs.declared.sending_to_client.Search.TheVariants.{Found, GoesOn, Over}
-use Rattle.wst_clients.specs.Turns.{IsDeafNow}
 use Rattle.wst_clients.specs.Visitors.{StayAll, StayVisitors, wait_until}
 use Rattle.wst_clients.proofs.VisitorLemmas.{waited_by}
 use Rattle.wst_commands.specs.Devices.{Tells}
@@ -62,7 +59,6 @@ use Rattle.wst_testing.proofs.NoteLemmas.{each_on, each_then}
 use Rattle.std.specs.Io.KnownBytes.{Keeps}
 use Rattle.std.proofs.lemmas.List.Elements.{All-append, All-cons, All-nil}
 use Rattle.wst_clients.specs.ClientTests.{IsFaultFor, IsVisitFault}
-use Rattle.wst_clients.specs.PlacedLines.{HasWrittenPlaced}
 use Rattle.wst_clients.specs.Visits.{BeginsScript, IsPlayed, IsRunOver, client_plan, notes_of_passing, passing_notes}
 use Rattle.wst_clients.specs.Visits.Passing.{Lost, Refused}
 use Rattle.wst_clients.specs.declared.sending_to_client.ScriptRules.{ScriptRules}
@@ -247,85 +243,48 @@ shown_whole start told end taken old mid new failed (recorded, marked) same firs
     (subst (λ (l : List ℕ). HasWritten (l ++ end.last.items) (record { failed = failed; old = old; new = new }))
     (sym same ∙ reported_told told) (Appends-trans old mid new (concat taken) end.last.items first last)) works
 
--- the lines of one place that was alone were taken by its output
-pub put_placed : (place now at : ℕ) (taken : List (ℕ × List ℕ)) (lines : List ℕ) (old mid new : GName)
-    (before after : Device) → at ≡ place
-    → (HasWrittenTaken (said_at only_place (lines_at place taken)) old mid before
-    → HasWrittenTaken (said_at only_place (lines_at place taken) ++ (only_place, lines) ∷ []) old new after)
-    → HasWrittenPlaced place now taken old mid before
-    → HasWrittenPlaced place now (taken ++ (at, lines) ∷ []) old new after
-put_placed place now at taken lines old mid new before after is put h =
-    subst (λ (n : ℕ). HasWrittenPlaced place now (taken ++ (n, lines) ∷ []) old new after) (sym is) (record {
-      same = h.same;
-      only = ap (λ (l : List (ℕ × List ℕ)). l ++ (place, lines) ∷ []) h.only
-          ∙ (sym (said_then place (lines_at place taken) (lines ∷ []))
-          ∙ ap (λ (l : List (List ℕ)). said_at place l) (sym (own_then place taken (lines ∷ []))));
-      written = subst (λ (l : List (ℕ × List ℕ)). HasWrittenTaken l old new after)
-          (sym (said_then only_place (lines_at place taken) (lines ∷ []))
-          ∙ ap (λ (l : List (List ℕ)). said_at only_place l) (sym (own_then place taken (lines ∷ []))))
-          (put h.written);
-    })
-
--- none were yet
-pub none_placed : (at : ℕ) (name : GName) (output : Device) → HasWrittenTaken [] name name output
-    → HasWrittenPlaced at at [] name name output
-none_placed at name output none = record { same = refl; only = refl; written = none }
-
--- all that were taken of it were written
-pub placed_written : (at now : ℕ) (taken : List (ℕ × List ℕ)) (old new : GName) (output : Device)
-    → HasWrittenPlaced at now taken old new output → HasWritten (concat (lines_at at taken)) output
-    × (output.failed ≡ false) × (new ≡ old)
-placed_written at now taken old new output h = (
-  subst (λ (l : List (List ℕ)). HasWritten (concat l) output) (lines_own only_place (lines_at at taken)) h.written.written,
-  h.written.works,
-  h.written.name,
-)
-
 -- what the output of one place has taken
-abbrev pub placed_heard : {W : Type 0} → (W → Option (List ℕ)) → PlacedOutput W → PlacedOutput W → List (ℕ × List ℕ)
+abbrev pub placed_heard : {W : Type 0} → (W → Option (List ℕ)) → LineOutput W → LineOutput W → List (ℕ × List ℕ)
     → Type 0
-placed_heard contents first now taken = HasWrittenPlaced first.at now.at taken first.writer.ghost_name
+placed_heard contents first now taken = HasWrittenTaken first.at now.at taken first.writer.ghost_name
     now.writer.ghost_name (watched contents first.writer.now now.writer.now)
+
+-- so it is of a run that was alone
+alone_taken : {S W : Type 0} (contents : W → Option (List ℕ)) (did : S → S → List Deed → Type 0)
+    (held : List (Option S)) (at : ℕ) (start : ShownTester) (end : RunEnd) (writer : Watched W) (s t : LineOutput W)
+    → (h : GivesOver (placed_heard contents) did (λ (x : ShownTester) told e. RunShows x told e) held at start end s t)
+    → has_failed writer ≡ false → s.writer.now ≡ writer → placed_heard contents s t h.lines
+alone_taken contents did held at start end writer s t h works same = h.put s [] (none_taken contents s.at s.writer.now
+    s.writer.ghost_name (subst (λ w. has_failed w ≡ false) (sym same) works))
 
 -- it writes to the same output still
 pub alone_name : {S W : Type 0} (contents : W → Option (List ℕ)) (did : S → S → List Deed → Type 0)
-    (held : List (Option S)) (at : ℕ) (start : ShownTester) (end : RunEnd) (writer : Watched W) (s t : PlacedOutput W)
+    (held : List (Option S)) (at : ℕ) (start : ShownTester) (end : RunEnd) (writer : Watched W) (s t : LineOutput W)
     → GivesOver (placed_heard contents) did (λ (x : ShownTester) told e. RunShows x told e) held at start end s t
     → has_failed writer ≡ false → s.writer.now ≡ writer
     → t.writer.ghost_name ≡ s.writer.ghost_name
-alone_name {S} {W} contents did held at start end writer s t h works same =
-    let fresh = none_placed s.at s.writer.ghost_name
-    (watched contents s.writer.now s.writer.now)
-    (none_taken contents s.writer.now s.writer.ghost_name
-    (subst (λ (w : Watched W). has_failed w ≡ false) (sym same) works)) in
-    let (wrote, runs, name) = placed_written s.at t.at h.lines s.writer.ghost_name t.writer.ghost_name
-    (watched contents s.writer.now t.writer.now) (h.put s [] fresh) in
-    name
+alone_name contents did held at start end writer s t h works same =
+    (alone_taken contents did held at start end writer s t h works same).name
 
 -- so the lines of a run that was alone were written, and behind them the last ones
 pub alone_shown : {S W : Type 0} (contents : W → Option (List ℕ)) (did : S → S → List Deed → Type 0)
     (held : List (Option S)) (at : ℕ) (start : ShownTester) (end : RunEnd) (writer last : Watched W)
-    (s t : PlacedOutput W)
+    (s t : LineOutput W)
     → GivesOver (placed_heard contents) did (λ (x : ShownTester) told e. RunShows x told e) held at start end s t
     → has_failed writer ≡ false → s.at ≡ at → s.writer.now ≡ writer
     → WritesRest contents t.writer.now last end.last.items
     → HasWrittenRun start.room.showing end.transcript (watched contents writer last)
 alone_shown {S} {W} contents did held at start end writer last s t h works place same rest =
-    let fresh = none_placed s.at s.writer.ghost_name
-    (watched contents s.writer.now s.writer.now)
-    (none_taken contents s.writer.now s.writer.ghost_name
-    (subst (λ (w : Watched W). has_failed w ≡ false) (sym same) works)) in
-    let (wrote, runs, name) = placed_written s.at t.at h.lines s.writer.ghost_name t.writer.ghost_name
-    (watched contents s.writer.now t.writer.now) (h.put s [] fresh) in
+    let taken = alone_taken contents did held at start end writer s t h works same in
     let lines = subst (λ (n : ℕ). HasLines h.happened (lines_at n h.lines)) (sym place) h.shown in
     let first = subst (λ (w : Watched W). HasWritten (concat (lines_at s.at h.lines)) (record {
       failed = false;
       old = contents (inner_of w);
       new = contents (inner_of t.writer.now);
-    })) same wrote in
+    })) same taken.written in
     shown_whole start (all_told h.happened) end (lines_at s.at h.lines) (contents (inner_of writer))
     (contents (inner_of t.writer.now)) (contents (inner_of last)) (has_failed last) h.given lines.1 first rest.0
-    (rest.1 runs)
+    (rest.1 taken.works)
 
 -- ---- what stops it
 
@@ -346,6 +305,7 @@ pub stay_twice : {M L P E S W : Type 0} (old mid new : Visitors M L P E S W) →
     → StayVisitors mid new → StayVisitors old new
 stay_twice old mid new first last = record {
   is_known = last.is_known ∙ first.is_known;
+  limits = last.limits ∙ first.limits;
   is_wait = last.is_wait ∙ first.is_wait;
   listener = last.listener ∙ first.listener;
   stay = λ known wait are. last.stay known wait (first.stay known wait are);
@@ -372,14 +332,6 @@ module _ {M L P E S W : Type 0} (stream : S → S → List Deed → Type 0) (did
       let (ended, vain) = subst (λ (e : Event E W). HasBecome stream did (time new.poller) until new.listener
       new.clients e) is become in
       (stay.is_wait, waited_by time old new until wait stay ended, vain)
-
-  -- or none can come any more
-  pub deaf_before : (why : W) → event ≡ Deaf why → IsDeafNow did new.listener
-  deaf_before why is = (
-    why,
-    subst (λ (e : Event E W). HasBecome stream did (time new.poller) until new.listener
-        new.clients e) is become,
-  )
 
   -- a request was decided
   pub decided_before : (at : ℕ) (came : Admission) → event ≡ Decided at came
@@ -531,8 +483,9 @@ module _ {M S K E W : Type 0} (heard : K → K → List (ℕ × List ℕ) → Ty
         → IsPlayEnd did gives start stream at happened event → ⊥
     not_told stream happened (Decided place admission) nothing end = end
     not_told stream happened (Played place last) nothing end = nothing end.0
-    not_told stream happened (Gone place) nothing end = nothing end
+    not_told stream happened (Gone place number) nothing end = nothing end
     not_told stream happened TooLate nothing end = end
+    not_told stream happened (Full why) nothing end = end
     not_told stream happened (Deaf why) nothing end = end
 
     -- more has happened, and this event tells nothing of it; and then all that is played is as it was

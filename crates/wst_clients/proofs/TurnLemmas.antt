@@ -1,6 +1,6 @@
 -- The turns of clients under test: who passed by, and that those who come stay those who are tested.
 use Rattle.std.proofs.Common.{◌≡◌, ◌∙◌, ℕ, Bool, true, List, [], ◌∷◌, ◌++◌, Option, Some, None, ap, inl, inr, refl}
-use Rattle.std.proofs.Common.{All, Err, Ok, OnErr, Result, ◌⊎◌, ◌-◌, ◌<◌, append-nil, append_assoc, arith, length, subst, suc}
+use Rattle.std.proofs.Common.{Err, Ok, OnErr, Result, ◌⊎◌, ◌-◌, ◌<◌, append-nil, append_assoc, arith, length, subst, suc}
 use Rattle.std.proofs.Common.{sym, zero}
 use Rattle.std.specs.Prelude.{slice_get}
 use Rattle.std.proofs.lemmas.Grind.{flat_map-append}
@@ -37,7 +37,7 @@ use Rattle.wst_clients.specs.Turns.{met_clients}
 use Rattle.wst_clients.specs.declared.visiting.NoVisit.{NoVisit}
 use Rattle.wst_clients.specs.declared.visiting.Turn.{Turn}
 use Rattle.wst_clients.specs.declared.visiting.Turn.TheVariants as turn
-use Rattle.wst_clients.specs.Visitors.{AsksNow, WaitsBehind, ending_for}
+use Rattle.wst_clients.specs.Visitors.{AsksNow, ending_for}
 use Rattle.wst_clients.specs.declared.visitors.Visitors.{Visitors}
 use Rattle.wst_clients.specs.Visits.{BeginsScript, BreaksTurn, HavePassed, IsAsked, IsPlayed, IsRunOver, IsToldAtOnce}
 use Rattle.wst_clients.specs.Visits.{IsTurnTaken, Met, Passes, Passing, begun_notes, case_for, case_notes}
@@ -379,17 +379,7 @@ asks_case rules NoCase number within is = absurd (none-some number is)
 module _ {L P E S W : Type 0} (did : S → S → List Deed → Type 0) (rules : VisitRules) (standing : StandingValue)
     (at : ℕ) (request : AcceptedRequest) (old new : Visitors TesterValue L P E S W) (purpose : Purpose)
     (asks : AsksNow rules standing request purpose) where
-  -- one that asks for a case waits behind the others
-  pub taken_waiting : (number : ℕ) → number_to_run purpose ≡ Some number
-      → WaitsBehind old.ending at request old.waiting.items new.waiting.items
-      → IsTakenIn did rules standing at request old new
-  taken_waiting number is waits = (
-    purpose,
-    asks,
-    subst (λ (n : Option ℕ). WaitsOrHears did rules standing purpose n at request old new) (sym is) waits,
-  )
-
-  -- another one is told at once
+  -- one that asks for no case is told at once
   pub taken_told : number_to_run purpose ≡ None → new.waiting.items ≡ old.waiting.items
       → new.ending ≡ ending_for purpose at old.ending
       → TellsThere did rules standing purpose request.behind.items at old new

@@ -29,13 +29,13 @@ use Rattle.ws_tester.specs.Outgoings.{HaveBytes, Pieces}
 use Rattle.ws_tester.specs.Records.{IsRecorded}
 use Rattle.ws_tester.specs.RunStates.{PlanValue, RunState}
 use Rattle.wst_clients.specs.Turns.{BeginsTold, IsTakenIn, RunsHeld, RunsOn, RunsThere, TellsThere}
-use Rattle.wst_clients.specs.Visitors.{AsksNow, KeepsQueue, WaitsBehind, WasAccepted, WasEndAsked, ending_for}
+use Rattle.wst_clients.specs.Visitors.{AsksNow, KeepsQueue, WasAccepted, WasEndAsked, ending_for}
 use Rattle.wst_clients.specs.Visits.{BeginsScript, IsToldAtOnce, TellsFor, known_by, visit_plan}
 use Rattle.wst_clients.specs.declared.visiting.VisitRules.{VisitRules}
 use Rattle.wst_clients.specs.declared.visitors.Ending.{Ending}
 use Rattle.wst_clients.specs.declared.visitors.Visitors.{Visitors}
 use Rattle.wst_clients.specs.declared.visitors.Waiting.{Waiting}
-use Rattle.wst_clients.proofs.TurnLemmas.{goes_still, run_ended, still_kept, taken_told, taken_waiting}
+use Rattle.wst_clients.proofs.TurnLemmas.{goes_still, run_ended, still_kept, taken_told}
 
 -- ---- how a script begins
 
@@ -121,16 +121,6 @@ module _ {L P E S W : Type 0} (did : S → S → List Deed → Type 0) (rules : 
       held))
 
   module _ (at : ℕ) (request : AcceptedRequest) (asks : AsksNow rules standing request purpose) where
-    -- who asks for a case waits
-    pub taken_last : (number : ℕ) (old mid new : Visitors TesterValue L P E S W)
-        → number_to_run purpose ≡ Some number → KeepsQueue old mid
-        → WaitsBehind mid.ending at request mid.waiting.items new.waiting.items
-        → IsTakenIn did rules standing at request old new
-    taken_last number old mid new is (waiting, ending) waits =
-        taken_waiting did rules standing at request old new purpose asks number is
-        (subst (λ (e : Ending). WaitsBehind e at request old.waiting.items new.waiting.items) ending
-        (subst (λ (v : Vec Waiting Global). WaitsBehind mid.ending at request v.items new.waiting.items) waiting waits))
-
     -- another one is told at once
     pub taken_answered : (old mid told new : Visitors TesterValue L P E S W) → number_to_run purpose ≡ None
         → mid.clients ≡ old.clients → KeepsQueue old mid → KeepsQueue mid told → new.clients ≡ told.clients
@@ -203,8 +193,13 @@ module _ {S K W : Type 0} (heard : K → K → List (ℕ × List ℕ) → Type 0
   on_deaf why is = goes_on (λ start stream happened end. subst (λ (e : Event Transcript W).
       IsPlayEnd did (λ first told end. IsRecorded first.run told end) start stream at happened e) is end)
 
-  pub on_gone : (place : ℕ) → event ≡ events.Gone place → (place ≡ at → ⊥) → RunsOn did old new at None
-  on_gone place is other = goes_on (λ start stream happened end. other (subst (λ (e : Event Transcript W).
+  pub on_full : (why : W) → event ≡ events.Full why → RunsOn did old new at None
+  on_full why is = goes_on (λ start stream happened end. subst (λ (e : Event Transcript W).
+      IsPlayEnd did (λ first told end. IsRecorded first.run told end) start stream at happened e) is end)
+
+  pub on_gone : (place : ℕ) (number : Option ℕ) → event ≡ events.Gone place number → (place ≡ at → ⊥)
+      → RunsOn did old new at None
+  on_gone place number is other = goes_on (λ start stream happened end. other (subst (λ (e : Event Transcript W).
       IsPlayEnd did (λ first told end. IsRecorded first.run told end) start stream at happened e) is end))
 
   pub on_played : (place : ℕ) (transcript : Transcript) → event ≡ events.Played place transcript

@@ -1,10 +1,10 @@
 -- Those who come to a listener stay those who are tested, whatever is done with them; who waits for its turn, in which
 -- order; and for how long a request is waited for.
-use Rattle.std.proofs.Common.{◌≡◌, ◌∙◌, ℕ, Bool, true, false, List, [], ◌∷◌, ◌++◌, Option, None, All, ap, append_assoc}
-use Rattle.std.proofs.Common.{if◌then◌else◌, refl, subst, sym}
+use Rattle.std.proofs.Common.{◌≡◌, ◌∙◌, ℕ, true, false, List, [], ◌∷◌, ◌++◌, Option, None, All, ap, append_assoc}
+use Rattle.std.proofs.Common.{refl, subst, sym}
 use Rattle.std.proofs.lemmas.Bool.{false≢true}
-use Rattle.std.proofs.lemmas.List.Elements.{All-head, All-nil, All-push, All-tail}
-use Rattle.std.specs.Prelude.{IsTrue, Vec, ◌==◌}
+use Rattle.std.proofs.lemmas.List.Elements.{All-push}
+use Rattle.std.specs.Prelude.{IsTrue, Vec}
 use Rattle.std.specs.declared.alloc.Global.{Global}
 use Rattle.ws_handshake.specs.declared.admission.AcceptedRequest.{AcceptedRequest}
 use Rattle.ws_clients.specs.Clients.{HasBecome}
@@ -19,13 +19,14 @@ use Rattle.ws_paths.specs.Standings.{StandingValue}
 use Rattle.wst_commands.specs.TimeLimits.{is_limited}
 use Rattle.wst_commands.specs.declared.time_limit.TimeLimit.{TimeLimit}
 use Rattle.wst_commands.specs.declared.time_limit.TimeLimit.TheVariants.{Seconds, Unlimited}
-use Rattle.wst_testing.specs.Servers.{DidThese, milliseconds_of}
+use Rattle.wst_testing.specs.Servers.{DidThese}
+use Rattle.wst_commands.specs.TimeLimits.{milliseconds_of}
 use Rattle.wst_clients.specs.Turns.{IsWhyNone}
 use Rattle.wst_clients.specs.Visits.{known_by}
 use Rattle.wst_clients.proofs.TurnLemmas.{admitted}
 use Rattle.wst_clients.specs.Visitors.{AreTestedBy, AreVisitors, AsksNoCase, HaveWaited, IsEndAskedSo}
-use Rattle.wst_clients.specs.Visitors.{PassedOver, StayAll, StayVisitors, StayWhere, WaitsLast}
-use Rattle.wst_clients.specs.Visitors.{WasAccepted, WasEndAsked, ending_with, ending_without, wait_until}
+use Rattle.wst_clients.specs.Visitors.{PassedOver, StayAll, WaitsLast}
+use Rattle.wst_clients.specs.Visitors.{WasAccepted, wait_until}
 use Rattle.wst_clients.specs.declared.visiting.NoVisit.TheVariants.{Never, TooLate}
 use Rattle.wst_clients.specs.declared.visiting.VisitRules.{VisitRules}
 use Rattle.wst_clients.specs.declared.visitors.Ending.{Ending}
@@ -65,57 +66,6 @@ module _ {M L P E S W : Type 0} (old new : Visitors M L P E S W) where
   are_still known wait s are = are_by known wait s.is_known s.is_wait (same_accepted known s.waiting are.waiting)
       (same_end known s.ending are.ending) are
 
-  -- so with another wait
-  pub stay_queue : new.clients.known ≡ old.clients.known → new.wait ≡ old.wait → new.listener ≡ old.listener
-      → new.waiting ≡ old.waiting → new.ending ≡ old.ending → StayVisitors old new
-  stay_queue known wait listener waiting ending = record {
-    is_known = known;
-    is_wait = wait;
-    listener = listener;
-    stay = λ names limit are. are_by names limit known wait (same_accepted names waiting are.waiting)
-        (same_end names ending are.ending) are;
-  }
-
-  -- where one of them is left
-  pub left_end : (known : List (List ℕ)) (at : ℕ) (ending : Ending) → IsEndAskedSo known ending
-      → IsEndAskedSo known (ending_without at ending)
-  left_end known at NotAsked asked = tt
-  left_end known at (Answering other) asked = by (other == at)
-    where
-      by : (b : Bool) → IsEndAskedSo known (if b then Answered else Answering other)
-      by true = asked
-      by false = asked
-  left_end known at Answered asked = asked
-
-  pub stay_left : (at : ℕ) → new.clients.known ≡ old.clients.known → new.wait ≡ old.wait → new.listener ≡ old.listener
-      → new.waiting ≡ old.waiting → new.ending ≡ ending_without at old.ending → StayVisitors old new
-  stay_left at known wait listener waiting ending = record {
-    is_known = known;
-    is_wait = wait;
-    listener = listener;
-    stay = λ names limit are. are_by names limit known wait (same_accepted names waiting are.waiting)
-        (subst (λ (e : Ending). IsEndAskedSo names e) (sym ending) (left_end names at old.ending are.ending)) are;
-  }
-
-  -- where one of those who wait doesn't any more
-  pub stay_first : (first : Waiting) → old.waiting.items ≡ first ∷ new.waiting.items
-      → new.clients.known ≡ old.clients.known → new.wait ≡ old.wait → new.ending ≡ old.ending
-      → new.listener ≡ old.listener → StayVisitors old new
-  stay_first first is known wait ending listener = record {
-    is_known = known;
-    is_wait = wait;
-    listener = listener;
-    stay = λ names limit are. are_by names limit known wait
-        (All-tail (λ (w : Waiting). WasAccepted names w.request) first new.waiting.items
-        (subst (λ (l : List Waiting). AllAccepted names l) is are.waiting)) (same_end names ending are.ending) are;
-  }
-
-  -- and its request was accepted
-  pub was_first : (first : Waiting) (known : List (List ℕ)) (wait : Option ℕ)
-      → old.waiting.items ≡ first ∷ new.waiting.items → AreVisitors known wait old → WasAccepted known first.request
-  was_first first known wait is are = All-head (λ (w : Waiting). WasAccepted known w.request) first new.waiting.items
-      (subst (λ (l : List Waiting). AllAccepted known l) is are.waiting)
-
   -- where one more waits
   pub are_more : (known : List (List ℕ)) (wait : Option ℕ) (at : ℕ) (request : AcceptedRequest)
       → new.clients.known ≡ old.clients.known → new.wait ≡ old.wait
@@ -127,19 +77,6 @@ module _ {M L P E S W : Type 0} (old new : Visitors M L P E S W) where
       (All-push (λ (w : Waiting). WasAccepted known w.request) old.waiting.items
       (record { at = at; request = request }) are.waiting accepted))
       (same_end known same_ending are.ending) are
-
-  asked_so : (known : List (List ℕ)) (at : ℕ) (before : Ending) → WasEndAsked known
-      → IsEndAskedSo known (ending_with at before)
-  asked_so known at NotAsked asked = asked
-  asked_so known at (Answering other) asked = asked
-  asked_so known at Answered asked = asked
-
-  -- where the end of the run is asked for
-  pub are_asked : (at : ℕ) → new.clients.known ≡ old.clients.known → new.wait ≡ old.wait → new.waiting ≡ old.waiting
-      → new.ending ≡ ending_with at old.ending → StayWhere WasEndAsked old new
-  are_asked at same_known same_wait same_waiting is known wait asked are = are_by known wait same_known same_wait
-      (same_accepted known same_waiting are.waiting)
-      (subst (λ (e : Ending). IsEndAskedSo known e) (sym is) (asked_so known at old.ending asked)) are
 
 -- ---- for how long a request is waited for
 
@@ -203,11 +140,7 @@ module _ {M L P E S W : Type 0} (stream : S → S → List Deed → Type 0) (did
 -- ---- the order of arrival
 
 module _ (rules : VisitRules) (standing : StandingValue) where
-  -- nobody was passed over
-  pub over_none : (waiting : List Waiting) → PassedOver rules standing waiting waiting
-  over_none waiting = ([], All-nil (AsksNoCase rules standing), refl)
-
-  -- one more was
+  -- one more was passed over
   pub over_more : (all left : List Waiting) (first : Waiting) (next : List Waiting)
       → PassedOver rules standing all left → left ≡ first ∷ next → AsksNoCase rules standing first
       → PassedOver rules standing all next

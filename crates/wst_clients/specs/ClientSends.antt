@@ -178,13 +178,13 @@ AreMetSo old new = (new.clients.known ≡ old.clients.known) × (new.wait ≡ ol
 -- what this event tells of what is played in this place: that it has ended so, or memory ran out for it; or nothing
 abbrev pub TellsNothingOf : {E W : Type 0} → ℕ → Event E W → Type 0
 TellsNothingOf at (Played place end) = place ≡ at → ⊥
-TellsNothingOf at (Gone place) = place ≡ at → ⊥
+TellsNothingOf at (Gone place number) = place ≡ at → ⊥
 TellsNothingOf at event = ⊤
 
 abbrev pub EndsInPlace : {E W X : Type 0} → ℕ → Event E W → Option (Result E X) → Type 0
 EndsInPlace at event None = TellsNothingOf at event
 EndsInPlace at event (Some (Ok end)) = event ≡ Played at end
-EndsInPlace at event (Some (Err lack)) = event ≡ Gone at
+EndsInPlace at event (Some (Err lack)) = (number : Option ℕ) × (event ≡ Gone at number)
 
 -- A machine was run to its end in this place, over the stream that was held there: this follows from all that it was
 -- told, and that is what the stream did, and what the clock says; and of the lines that the sink took meanwhile those

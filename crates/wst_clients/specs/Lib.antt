@@ -7,4 +7,3 @@ pub mod LateClients
 pub mod ClientTests
 pub mod ClientCaptures
 pub mod ClientSends
-pub mod PlacedLines

@@ -82,9 +82,10 @@ IsTurn IsWhy rules standing turn.Over = IsToldAtOnce rules standing UpdateReport
 IsTurn IsWhy rules standing (turn.None why) = IsWhy why
 
 -- The turn of the first of those who wait that asks for a case by now, who waits no longer; or nobody is left who
--- waits, and it is nobody's any more only where the end of the run was answered.
+-- waits, and it is nobody's any more just where the end of the run was answered.
 abbrev pub TakesFirst : VisitRules → StandingValue → Ending → List Waiting → List Waiting → Option Turn → Type 0
-TakesFirst rules standing ending old new None = PassedOver rules standing old [] × (new ≡ [])
+TakesFirst rules standing ending old new None =
+    PassedOver rules standing old [] × (new ≡ []) × (ending ≡ Answered → ⊥)
 TakesFirst rules standing ending old new (Some (turn.Case at purpose behind)) = (first : Waiting)
     × PassedOver rules standing old (first ∷ new) × (first.at ≡ at) × AsksNow rules standing first.request purpose
 TakesFirst rules standing ending old new (Some turn.Over) = PassedOver rules standing old [] × (new ≡ [])

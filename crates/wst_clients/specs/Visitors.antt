@@ -17,7 +17,8 @@ use Rattle.ws_paths.specs.declared.purpose.Purpose.{Purpose}
 use Rattle.ws_paths.specs.declared.purpose.Purpose.TheVariants.{CaseCount, CaseInfo, CaseStatus, NextCase, NoCase}
 use Rattle.ws_paths.specs.declared.purpose.Purpose.TheVariants.{RunCase, UpdateReports}
 use Rattle.ws_scripts.specs.declared.script.Case.{Case}
-use Rattle.wst_testing.specs.Servers.{DidThese, milliseconds_of}
+use Rattle.wst_testing.specs.Servers.{DidThese}
+use Rattle.wst_commands.specs.TimeLimits.{milliseconds_of}
 use Rattle.wst_clients.specs.Visits.{known_by}
 use Rattle.wst_clients.specs.declared.visiting.VisitRules.{VisitRules}
 use Rattle.wst_clients.specs.declared.visitors.Ending.{Ending}
@@ -58,9 +59,10 @@ abbrev pub StayWhere : {M L P E S W : Type 0} → (List (List ℕ) → Type 0) �
 StayWhere Where old new =
     (known : List (List ℕ)) (wait : Option ℕ) → Where known → AreVisitors known wait old → AreVisitors known wait new
 
--- Those who are tested by whatever rules still are, and their listener is as it was.
+-- Those who are tested by whatever rules still are, with the same limits, and their listener is as it was.
 pub record StayVisitors {M L P E S W : Type 0} (old new : Visitors M L P E S W) : Type 0 where
   pub is_known : new.clients.known ≡ old.clients.known
+  pub limits : new.clients.limits ≡ old.clients.limits
   pub is_wait : new.wait ≡ old.wait
   pub listener : new.listener ≡ old.listener
   pub stay : (known : List (List ℕ)) (wait : Option ℕ) → AreVisitors known wait old → AreVisitors known wait new
@@ -68,6 +70,7 @@ pub record StayVisitors {M L P E S W : Type 0} (old new : Visitors M L P E S W) 
 -- they do, and where they wait, and what they wait for, and since when, is as it was
 pub record StayAll {M L P E S W : Type 0} (old new : Visitors M L P E S W) : Type 0 where
   pub is_known : new.clients.known ≡ old.clients.known
+  pub limits : new.clients.limits ≡ old.clients.limits
   pub is_wait : new.wait ≡ old.wait
   pub since : new.since ≡ old.since
   pub waiting : new.waiting ≡ old.waiting

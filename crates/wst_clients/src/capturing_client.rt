@@ -4,7 +4,6 @@ ghost use Rattle.std.specs.Prelude.{◌≡◌, ◌∷◌, [], MatchResult, false
 ghost use Rattle.ws_frame.specs.Devices.{watched};
 ghost use Rattle.ws_frame.specs.Watching.{has_failed};
 ghost use Rattle.ws_scripts.specs.Scripts.{CanBeRun};
-ghost use Rattle.ws_wire.specs.declared.role.Role.TheVariants.{Client};
 ghost use Rattle.ws_upgrade.specs.Protocols.{AreOffers};
 ghost use Rattle.wst_commands.specs.Devices.{StaysFailed};
 ghost use Rattle.wst_clients.specs.ClientCaptures.{CapturesClient, WritesLast, WritesTaken};
@@ -20,36 +19,12 @@ use ws_frame::Watched;
 use ws_suite::{Case, Expectation};
 use ws_wire::{NO_KEY, Role};
 use wst_commands::{Exit, Fault};
-use wst_testing::{Outcome, RunRules, tell_capture, tell_case};
+use wst_testing::{Outcome, tell_capture, tell_case};
 
 /// Takes the turn of the first who asks for the case, whose capture is written. Where the end of the run is asked for
 /// before, or nobody asks in time, the line of a case is written that was not run. The one case of the rules is this
 /// one.
 pub fn capture_client<C: TestedClients, W: Write, F: Write>(
-    alloc: Global,
-    clients: &mut C,
-    rules: &VisitRules<'_>,
-    case: &Case,
-    writer: &mut Watched<W>,
-    faults: &mut Watched<F>,
-) -> Result<Exit, Fault>
-    requires works { has_failed writer.old ≡ false }
-    requires one { rules.now.cases.now ≡ case.now ∷ [] }
-    requires can { CanBeRun case.now }
-    requires known { AreOffers (known_by rules.now) }
-    requires are { C.are rules.now clients.old }
-    ensures captures { CapturesClient (record { visits = C.visits; passes = C.passes }) (unmet_by C.none C.fails)
-        rules.now case.now result (watched W.contents writer.old writer.new)
-        (watched F.contents faults.old faults.new) }
-    ensures still { StaysFailed faults.old faults.new }
-{
-    let told = capture_next(alloc, clients, rules, case, writer, faults);
-    clients.end();
-    told
-}
-
-/// The same, and leaves those who are left.
-fn capture_next<C: TestedClients, W: Write, F: Write>(
     alloc: Global,
     clients: &mut C,
     rules: &VisitRules<'_>,
@@ -74,8 +49,15 @@ fn capture_next<C: TestedClients, W: Write, F: Write>(
         standing: &standing,
     };
     match clients.next_visit(round, faults) {
-        Ok(taken) => tell_taken(alloc, rules.expected, case, taken, writer),
-        Err(why) => Err(fault_of(why)),
+        Ok(taken) => {
+            let told = tell_taken(alloc, rules.expected, case, taken, writer);
+            clients.end();
+            told
+        }
+        Err(why) => {
+            clients.end();
+            Err(fault_of(why))
+        }
     }
 }
 
@@ -114,25 +96,9 @@ fn tell_last<W: Write>(
 {
     match visit {
         Visit::Ran(_, transcript) => {
-            let told = tell_capture(alloc, client_rules(expected), transcript, writer)?;
+            let told = tell_capture(alloc, Role::Client, expected, NO_KEY, transcript, writer)?;
             Ok(told)
         }
         Visit::Over => tell_case(alloc, case, &Outcome::NotRun, Exit::Damaged, writer),
-    }
-}
-
-/// How a client is captured.
-fn client_rules(expected: Expectation) -> RunRules
-    ensures tested { result.tested ≡ Client }
-    ensures expected { result.expected ≡ expected }
-{
-    RunRules {
-        tested: Role::Client,
-        expected,
-        key: NO_KEY,
-        explains: None,
-        progress: false,
-        is_limited: false,
-        max_fail: None,
     }
 }

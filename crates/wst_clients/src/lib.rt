@@ -10,7 +10,6 @@ mod capturing_client;
 mod client_documents;
 mod client_lines;
 mod late_clients;
-mod placed_output;
 mod sending_to_client;
 mod tested_clients;
 mod testing_clients;

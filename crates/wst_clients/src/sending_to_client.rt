@@ -18,7 +18,6 @@ ghost use Rattle.wst_clients.specs.Visitors.{PlayOn, StayVisitors};
 ghost use Rattle.wst_clients.specs.ClientTests.{IsVisitFault};
 ghost use Rattle.wst_clients.specs.Visits.{BeginsScript, IsPlayed, IsRunOver, client_plan};
 
-use crate::placed_output::PlacedOutput;
 use crate::testing_clients::fault_of;
 use crate::visiting::tell_refused;
 use crate::visitors::Visitors;
@@ -37,7 +36,7 @@ use ws_tester::{TestPlan, Tester};
 use ws_wire::Role;
 use wst_commands::{Fault, tell};
 use wst_sockets::ConnectFault;
-use wst_testing::LineStop;
+use wst_testing::{LineOutput, LineStop};
 
 /// The script that is sent to a client, and how.
 #[derive(Clone, Copy)]
@@ -241,7 +240,7 @@ where
                 None => Ok(Search::GoesOn),
             }
         }
-        Event::Played(at, _) | Event::Gone(at) => {
+        Event::Played(at, _) | Event::Gone(at, _) => {
             visitors.leave(at);
             Ok(Search::GoesOn)
         }
@@ -249,6 +248,7 @@ where
             tell(ConnectFault::TimedOut.line(), faults);
             Ok(Search::Over)
         }
+        Event::Full(_) => Ok(Search::GoesOn),
         Event::Deaf(_) => Ok(Search::Over),
     }
 }
@@ -331,7 +331,7 @@ where
             visitors.leave(place);
             if place == at { Some(Ok(end)) } else { None }
         }
-        Event::Gone(place) => {
+        Event::Gone(place, _) => {
             if place == at {
                 Some(Err(NoMemory))
             } else {
@@ -342,7 +342,7 @@ where
             visitors.leave(place);
             None
         }
-        Event::TooLate | Event::Deaf(_) => None,
+        Event::TooLate | Event::Full(_) | Event::Deaf(_) => None,
     }
 }
 
@@ -361,7 +361,7 @@ fn show_alone<L: Listener + Drop, P: Poller + Drop, W: Write>(
     ensures shown { IfOk result (λ transcript. HasWrittenRun run.room.showing transcript
         (watched W.contents writer.old writer.new)) }
 {
-    let mut sink = PlacedOutput::new(at, writer);
+    let mut sink = LineOutput::new(at, writer);
     let end = play_alone(visitors, at, run, &mut sink)?;
     let RunEnd { transcript, last } = end;
     sink.write_last(last.as_slice())?;

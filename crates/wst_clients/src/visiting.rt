@@ -176,6 +176,7 @@ fn run_turn<L: Listener + Drop, P: Poller + Drop, F: Write>(
     ensures held { OnOk result (AreHeld L.Client.did visitors.new) }
     ensures played { IfOk result
         (IsPlayedTo L.Client.did round.entry.rules.now round.entry.standing.now purpose) }
+    ensures since { IfOk result (λ ran. visitors.new.since ≡ P.time visitors.new.poller) }
     ensures still { StaysFailed faults.old faults.new }
 {
     match case_for(round.rules.cases, purpose) {
@@ -244,6 +245,7 @@ fn meet_next<L: Listener + Drop, P: Poller + Drop, F: Write>(
     let event = visitors.next(&mut NoLines, until)?;
     match event {
         Event::TooLate => Ok(Some(NoVisit::TooLate)),
+        Event::Full(_) => Ok(None),
         Event::Deaf(_) => Ok(Some(NoVisit::Never)),
         Event::Decided(at, admission) => {
             admit(round, visitors, at, admission, faults)?;
@@ -253,7 +255,7 @@ fn meet_next<L: Listener + Drop, P: Poller + Drop, F: Write>(
             visitors.leave(at);
             Ok(None)
         }
-        Event::Gone(at) => {
+        Event::Gone(at, _) => {
             visitors.leave(at);
             Ok(None)
         }
@@ -307,6 +309,7 @@ fn run_at<L: Listener + Drop, P: Poller + Drop, F: Write>(
     requires untold { WasTold tester tester [] }
     requires goes_on { HasNext (wanted_in tester.run) }
     ensures runs { IfOk result (RunsThere L.Client.did visitors.old.clients.held at tester.run) }
+    ensures since { IfOk result (λ ran. visitors.new.since ≡ P.time visitors.new.poller) }
     ensures passed { HavePassed met_clients round.entry.rules.now round.entry.standing.now
         (watched F.contents faults.old faults.new) }
     ensures are { OnOk result (AreTestedBy round.entry.rules.now visitors.new) }
@@ -339,6 +342,7 @@ fn run_on<L: Listener + Drop, P: Poller + Drop, F: Write>(
     requires held { AreHeld L.Client.did visitors.old }
     ensures runs { IfOk result
         (RunsOn L.Client.did visitors.old.clients.places visitors.new.clients.places at) }
+    ensures since { IfOk result (λ came. IfSome came (λ ran. visitors.new.since ≡ P.time visitors.new.poller)) }
     ensures passed { HavePassed met_clients round.entry.rules.now round.entry.standing.now
         (watched F.contents faults.old faults.new) }
     ensures are { OnOk result (AreTestedBy round.entry.rules.now visitors.new) }
@@ -355,7 +359,7 @@ fn run_on<L: Listener + Drop, P: Poller + Drop, F: Write>(
             }
             Ok(None)
         }
-        Event::Gone(place) => {
+        Event::Gone(place, _) => {
             if place == at {
                 return Err(LoopFault::NoMemory);
             }
@@ -367,6 +371,7 @@ fn run_on<L: Listener + Drop, P: Poller + Drop, F: Write>(
             Ok(None)
         }
         Event::TooLate => Ok(None),
+        Event::Full(_) => Ok(None),
         Event::Deaf(_) => Ok(None),
     }
 }

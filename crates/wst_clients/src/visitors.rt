@@ -4,10 +4,10 @@
 ghost use Rattle.std.specs.Prelude.{◌≡◌, ◌∷◌, IfOk, IfSome, MatchOption, OnOk, Some, [], true, map};
 ghost use Rattle.ws_machines.specs.Machines.{HasNext};
 ghost use Rattle.ws_upgrade.specs.Protocols.{AreOffers};
-ghost use Rattle.ws_clients.specs.Clients.{HasBecome, HoldsBehind, IsHeldAt, IsNewlyHeld, IsPlaying, PlaysOn};
-ghost use Rattle.ws_clients.specs.Clients.{StandsWhere, StayHeld};
+ghost use Rattle.ws_clients.specs.Clients.{HasBecome, HoldsBehind, IsHeldAt, IsLimitAt, IsNewlyHeld, IsPlaying};
+ghost use Rattle.ws_clients.specs.Clients.{PlaysOn, StandsWhere, StayHeld};
 ghost use Rattle.ws_handshake.specs.declared.admission.Admission.TheVariants as admission;
-ghost use Rattle.wst_testing.specs.Servers.{milliseconds_of};
+ghost use Rattle.wst_commands.specs.TimeLimits.{milliseconds_of};
 ghost use Rattle.wst_clients.specs.Visitors.{AreHeld, AreVisitors, KeepsQueue, PlayOn, StayAll, StayHeldBut};
 ghost use Rattle.wst_clients.specs.Visitors.{StayHeldWith, StayVisitors, StayWhere};
 ghost use Rattle.wst_clients.specs.Visitors.{WaitsBehind, WasAccepted, WasEndAsked, ending_with, ending_without};
@@ -23,7 +23,6 @@ use ws_loops::{LineSink, Listener, Poller};
 use ws_machines::Machine;
 use ws_networks::Limits;
 use wst_sockets::Waits;
-use wst_testing::milliseconds;
 
 /// So many clients can be there at a time. Others wait in the system.
 const PLACES: usize = 256;
@@ -79,12 +78,14 @@ where
     ) -> Result<Visitors<'a, M, L, P>, NoMemory>
         requires { AreOffers (map (λ name. name.now) known.now) }
         ensures are { IfOk result (AreVisitors (map (λ name. name.now) known.now) (milliseconds_of waits.client)) }
+        ensures limits { IfOk result (λ made. made.clients.limits
+            ≡ record { limit = milliseconds_of waits.byte; deadline = milliseconds_of waits.deadline }) }
         ensures since { IfOk result (λ made. made.since ≡ P.time made.poller) }
         ensures held { IfOk result (AreHeld L.Client.did) }
     {
         let limits = Limits {
-            limit: milliseconds(waits.byte),
-            deadline: milliseconds(waits.deadline),
+            limit: waits.byte.milliseconds(),
+            deadline: waits.deadline.milliseconds(),
         };
         let clients = Clients::new(alloc, known, limits, PLACES)?;
         let mut poller = poller;
@@ -94,7 +95,7 @@ where
             listener,
             poller,
             waiting: Vec::new(alloc),
-            wait: milliseconds(waits.client),
+            wait: waits.client.milliseconds(),
             since,
             ending: Ending::NotAsked,
             number,
@@ -197,6 +198,7 @@ where
         ensures played { result ≡ true → (stream : L.Client) × IsHeldAt self.old.clients.held at stream
             × IsPlaying M.agrees L.Client.did machine stream [] self.new.clients.places at }
         ensures begins { (stream : L.Client) → IsHeldAt self.old.clients.held at stream → result ≡ true }
+        ensures limit { result ≡ true → IsLimitAt self.old.clients.limits.limit self.new.clients.places at }
         ensures held { StayHeldBut L.Client.did at self.old self.new }
         ensures plays { PlayOn M.agrees L.Client.did self.old self.new }
         ensures queue { KeepsQueue self.old self.new }

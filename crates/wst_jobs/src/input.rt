@@ -7,7 +7,7 @@ use std::fmt::Write;
 use std::io::{self, Read};
 use ws_frame::Watched;
 use wst_network::SystemConnector;
-use wst_run::run;
+use wst_run::{Site, run};
 use wst_sockets::Network;
 
 /// A reader of a text in memory.
@@ -50,15 +50,12 @@ pub fn run_wst<N: Network, R: Read + Drop>(
     let mut reader = Watched::new(reader);
     let mut writer = Watched::new(Digest::new());
     let mut faults = Watched::new(Digest::new());
-    let exit = run(
+    let site = Site {
         alloc,
-        line.as_slice(),
         net,
-        &SystemConnector::of(net),
-        &mut reader,
-        &mut writer,
-        &mut faults,
-    );
+        connector: &SystemConnector::of(net),
+    };
+    let exit = run(site, line.as_slice(), &mut reader, &mut writer, &mut faults);
     let (written, told) = (writer.into_inner(), faults.into_inner());
     write!(results, " {} {written} {told}", exit.status())?;
     Ok(())

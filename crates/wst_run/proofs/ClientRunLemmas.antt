@@ -10,17 +10,17 @@ use Rattle.ws_reports.specs.Reports.{ReportValue}
 use Rattle.ws_scripts.specs.Captures2.{written_capture2}
 use Rattle.ws_scripts.specs.declared.script.Case.{Case}
 use Rattle.ws_scripts.specs.declared.transcript.Transcript.{Transcript}
+use Rattle.ws_wire.specs.declared.role.Role.TheVariants.{Client}
 use Rattle.wst_commands.specs.Devices.{Delivers}
 use Rattle.wst_commands.specs.TimeLimits.{is_limited}
 use Rattle.wst_commands.specs.declared.exit.Exit.{Exit}
 use Rattle.wst_commands.specs.declared.exit.Exit.TheVariants.{Done, Failed}
 use Rattle.wst_commands.specs.declared.fault.Fault.{Fault}
 use Rattle.wst_commands.specs.declared.fault.Fault.TheVariants.{NoMemory}
-use Rattle.wst_commands.specs.declared.fault.ListenFault.TheVariants as listen
-use Rattle.wst_sockets.specs.Listening.{CanNotTell}
+use Rattle.wst_sockets.specs.Listening.{CanNotListen}
 use Rattle.wst_testing.specs.Hints.{missed_echo_notes}
 use Rattle.wst_testing.specs.Notes.{TellsEach}
-use Rattle.wst_testing.specs.Servers.{milliseconds_of}
+use Rattle.wst_commands.specs.TimeLimits.{milliseconds_of}
 use Rattle.wst_clients.specs.ClientCaptures.{client_capture}
 use Rattle.wst_clients.specs.ClientSends.{IsSentSo, MayBeMissed, ScriptsClient, ScriptsOver}
 use Rattle.wst_clients.specs.ClientTests.{IsVisitFault}
@@ -34,8 +34,7 @@ use Rattle.wst_clients.specs.declared.visiting.VisitRules.{VisitRules}
 use Rattle.wst_clients.specs.declared.visitors.Visitors.{Visitors}
 use Rattle.wst_clients.proofs.UnmetLemmas.{captures_by, documents_by, tests_by}
 use Rattle.wst_clients.proofs.VisitorLemmas.{limited_by}
-use Rattle.wst_run.specs.ClientRuns.{AreRulesOf, AreScriptRulesOf, CanNotListen, HintsBehind, HintsClient, IsJobFor}
-use Rattle.wst_run.specs.ClientRuns.{IsJobOf}
+use Rattle.wst_run.specs.ClientRuns.{AreRulesOf, AreScriptRulesOf, HintsBehind, HintsEcho, IsJobFor, IsJobOf}
 use Rattle.wst_run.specs.ClientRuns.{ScriptsPlan, SendsScript, TestsNone, VisitsTold, WritesClientRun, unmet_at}
 use Rattle.wst_run.specs.Test.{CanBeTested}
 use Rattle.wst_run.specs.declared.test.TestPlan.{TestPlan}
@@ -59,13 +58,6 @@ pub waits_as : {M L P E S W : Type 0} (v : Visitors M L P E S W) (names known : 
     → names ≡ known → limit ≡ wait → AreVisitors names limit v → AreVisitors known wait v
 waits_as v names known limit wait same is are = subst (λ (l : List (List ℕ)). AreVisitors l wait v) same
     (subst (λ (w : Option ℕ). AreVisitors names w v) is are)
-
--- an address that can't be told is not listened at
-pub untold_unheard : {A : Type 0} (P : A → Type 0) (ended : Result A Fault) → IsErrAnd ended CanNotTell
-    → MatchResult ended P CanNotListen
-untold_unheard P (Ok heard) is = absurd is
-untold_unheard P (Err fault) (inl lacks) = inr lacks
-untold_unheard P (Err fault) (inr is) = inl (listen.Failed, is)
 
 -- ---- tests
 
@@ -172,13 +164,13 @@ sends_captured plan case transcript exit output faults sent captures (inr (is, f
 pub sends_shown : (plan : SendPlan) (case : Case) (transcript : Transcript) (output first last : Device)
     → ScriptsPlan ⊤ plan case (Some transcript) first → plan.capture ≡ false
     → WritesClientRun plan.style false transcript output → first.new ≡ last.old
-    → (first.failed ≡ true → last.failed ≡ true) → HintsClient plan.run.expected transcript last
+    → (first.failed ≡ true → last.failed ≡ true) → HintsEcho plan.run.expected Client transcript last
     → SendsScript ⊤ plan case (Ok Done) output (record last { old = first.old })
 sends_shown plan case transcript output first last sent shows written same still (missed, may, told) = (
   transcript,
   subst (λ (b : Bool). HintsBehind b plan.run.expected transcript
       (λ (d : Device). ScriptsPlan ⊤ plan case (Some transcript) d) (record last { old = first.old })) (sym shows)
-      (missed, may, (first, (refl, still), sent, subst (λ (o : Option (List ℕ)). Told o) (sym same) told)),
+      (first, (refl, still), sent, (missed, may, subst (λ (o : Option (List ℕ)). Told o) (sym same) told)),
   subst (λ (b : Bool). WritesClientRun plan.style b transcript output) (sym shows) written,
 )
   where

@@ -5,15 +5,16 @@ use Rattle.ws_frame.specs.Devices.{Device}
 use Rattle.ws_reports.specs.Reports.{ReportValue}
 use Rattle.ws_scripts.specs.declared.script.Case.{Case}
 use Rattle.wst_commands.specs.declared.exit.Exit.{Exit}
+use Rattle.wst_commands.specs.declared.fault.Fault.{Fault}
 use Rattle.wst_testing.specs.Ends.{IsEndOfPlan, MeetsEnd, MeetsEndShown}
 use Rattle.wst_testing.specs.Servers.{MeetsInMemory}
 use Rattle.wst_sockets.specs.declared.meeting.Meeting.{Meeting}
 use Rattle.wst_testing.specs.declared.runner.End.{End}
 use Rattle.wst_testing.specs.declared.run_plans.TestedEnd.{TestedEnd}
 use Rattle.wst_testing.specs.declared.run_plans.TestedEnd.TheVariants.{Clients, Memory, Server}
-use Rattle.wst_run.specs.ClientRuns.{SendsToClientAt, TestsClientsAt}
+use Rattle.wst_run.specs.ClientRuns.{SendsAt, TestsClientsAt}
 use Rattle.wst_run.specs.ClientSweeps.{SweepsClientsAt}
-use Rattle.wst_run.specs.Send.{MeetsAs, RunsSendPlan, SendsOver}
+use Rattle.wst_run.specs.Send.{MeetsAs, SendsCase, SendsCaseOver}
 use Rattle.wst_run.specs.Sweep.{RunsSweepPlan, SweepsOver}
 use Rattle.wst_run.specs.Test.{RunsPlan, RunsPlanOver}
 use Rattle.wst_run.specs.declared.send.SendPlan.{SendPlan}
@@ -75,35 +76,35 @@ sweeps_clients {N} {C} (Clients given) plan named address exit output faults sam
 -- ---- send
 
 -- where both meet cases so, it is one
-meets_once : (asks : Bool) (Meets : Case → Meeting → Type 0) (plan : SendPlan) (exit : Exit)
-    (input output faults : Device) → RunsSendPlan (MeetsAs asks Meets Meets) plan exit input output faults
-    → RunsSendPlan Meets plan exit input output faults
-meets_once true Meets plan exit input output faults h = h
-meets_once false Meets plan exit input output faults h = h
+meets_once : (asks : Bool) (Meets : Case → Meeting → Type 0) (plan : SendPlan) (case : Case) (ended : Result Exit Fault)
+    (output faults : Device) → SendsCase (MeetsAs asks Meets Meets) plan case ended output faults
+    → SendsCase Meets plan case ended output faults
+meets_once true Meets plan case ended output faults h = h
+meets_once false Meets plan case ended output faults h = h
 
 abbrev MeetsNamed : {N C : Type 0} → SendPlan → End N C → Case → Meeting → Type 0
 MeetsNamed plan end = MeetsAs plan.capture (λ case meeting. MeetsEnd end plan.run.key case meeting)
     (λ case meeting. MeetsEndShown end plan.run.key case meeting)
 
-pub sends_end : {N C : Type 0} (tested : TestedEnd) (plan : SendPlan) (end : End N C)
-    (exit : Exit) (input output faults : Device) → IsEndOfPlan plan.run tested (Ok end)
-    → RunsSendPlan (MeetsNamed plan end) plan exit input output faults
-    → SendsOver tested plan exit input output faults
-sends_end {N} {C} (Memory memory) plan end exit input output faults is h =
-    meets_once plan.capture (λ case meeting. MeetsInMemory memory plan.run.key case meeting) plan exit input output faults
-    (subst (λ (e : End N C). RunsSendPlan (MeetsNamed plan e) plan exit input output faults) is h)
-sends_end {N} {C} (Server target) plan end exit input output faults is h =
-    subst (λ (e : End N C). RunsSendPlan (MeetsNamed plan e) plan exit input output faults) is h
-sends_end (Clients address) plan end exit input output faults is h = absurd is
+pub sends_end : {N C : Type 0} (tested : TestedEnd) (plan : SendPlan) (end : End N C) (case : Case)
+    (ended : Result Exit Fault) (output faults : Device) → IsEndOfPlan plan.run tested (Ok end)
+    → SendsCase (MeetsNamed plan end) plan case ended output faults
+    → SendsCaseOver tested plan case ended output faults
+sends_end {N} {C} (Memory memory) plan end case ended output faults is h =
+    meets_once plan.capture (λ case meeting. MeetsInMemory memory plan.run.key case meeting) plan case ended output faults
+    (subst (λ (e : End N C). SendsCase (MeetsNamed plan e) plan case ended output faults) is h)
+sends_end {N} {C} (Server target) plan end case ended output faults is h =
+    subst (λ (e : End N C). SendsCase (MeetsNamed plan e) plan case ended output faults) is h
+sends_end (Clients address) plan end case ended output faults is h = absurd is
 
-pub sends_clients : {N C : Type 0} (tested : TestedEnd) (plan : SendPlan)
-    (named : Result (End N C) (Bor (List ℕ))) (address : Bor (List ℕ)) (exit : Exit) (input output faults : Device)
-    → named ≡ Err address → IsEndOfPlan plan.run tested named → SendsToClientAt address.now plan exit input output faults
-    → SendsOver tested plan exit input output faults
-sends_clients {N} {C} (Memory memory) plan named address exit input output faults same is h =
+pub sends_clients : {N C : Type 0} (tested : TestedEnd) (plan : SendPlan) (named : Result (End N C) (Bor (List ℕ)))
+    (address : Bor (List ℕ)) (case : Case) (ended : Result Exit Fault) (output faults : Device)
+    → named ≡ Err address → IsEndOfPlan plan.run tested named → SendsAt address.now plan case ended output faults
+    → SendsCaseOver tested plan case ended output faults
+sends_clients {N} {C} (Memory memory) plan named address case ended output faults same is h =
     absurd (subst (λ (r : Result (End N C) (Bor (List ℕ))). IsEndOfPlan plan.run (Memory memory) r) same is)
-sends_clients {N} {C} (Server target) plan named address exit input output faults same is h =
+sends_clients {N} {C} (Server target) plan named address case ended output faults same is h =
     absurd (subst (λ (r : Result (End N C) (Bor (List ℕ))). IsEndOfPlan plan.run (Server target) r) same is)
-sends_clients {N} {C} (Clients given) plan named address exit input output faults same is h =
-    subst (λ (l : List ℕ). SendsToClientAt l plan exit input output faults)
+sends_clients {N} {C} (Clients given) plan named address case ended output faults same is h =
+    subst (λ (l : List ℕ). SendsAt l plan case ended output faults)
     (subst (λ (r : Result (End N C) (Bor (List ℕ))). IsEndOfPlan plan.run (Clients given) r) same is) h

@@ -6,3 +6,4 @@ pub mod RunLemmas
 pub mod ClientRunLemmas
 pub mod ClientSweepLemmas
 pub mod SendLemmas
+pub mod NotedLemmas

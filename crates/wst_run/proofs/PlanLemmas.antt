@@ -6,7 +6,12 @@ use Rattle.std.specs.List.{All}
 use Rattle.ws_scripts.specs.Scripts.{CanBeRun}
 use Rattle.ws_scripts.specs.declared.script.Case.{Case}
 use Rattle.wst_commands.specs.GivenCases.{AreCasesFor, is_glob, names_of, or_all}
+use Rattle.wst_run.specs.Send.{RefusesSend}
 use Rattle.wst_run.specs.Test.{is_one_case}
+use Rattle.wst_testing.specs.RunPlans.{CanNotRun}
+use Rattle.wst_testing.specs.declared.run_plans.Refusal.{Refusal}
+use Rattle.wst_testing.specs.declared.run_plans.Refusal.TheVariants as refusal
+use Rattle.wst_words.specs.declared.send.SendOptions.{SendOptions}
 use Rattle.ws_frame.specs.Devices.{Device}
 use Rattle.wst_commands.specs.declared.exit.Exit.{Exit}
 use Rattle.wst_commands.specs.declared.fault.Fault.{Fault}
@@ -36,18 +41,6 @@ cases_counted (id ∷ []) cases one are =
     one_case id.now cases are (sym (not_not (is_glob id.now)) ∙ ap (λ (b : Bool). not b) one)
 cases_counted (id ∷ next ∷ ids) cases one are = absurd (cc)
 
--- whether one is asked for
-pub asks_for_one : (ids : List (Bor (List ℕ))) (id : Bor (List ℕ)) → length ids ≡ 1 → id ≡ slice_index_or ids 0 id
-    → not (is_glob id.now) ≡ is_one_case (names_of ids)
-asks_for_one [] id one is = absurd (omega (arith, one))
-asks_for_one (x ∷ []) id one is = ap (λ (y : Bor (List ℕ)). not (is_glob y.now)) is
-asks_for_one (x ∷ y ∷ more) id one is = absurd (omega (arith, one))
-
-pub asks_for_others : (ids : List (Bor (List ℕ))) → (length ids ≡ 1 → ⊥) → false ≡ is_one_case (names_of ids)
-asks_for_others [] other = refl
-asks_for_others (x ∷ []) other = absurd (other refl)
-asks_for_others (x ∷ y ∷ more) other = refl
-
 -- what was told while a plan was carried out, where the fault output may have failed since
 pub carries_on : (Meets : Case → Meeting → Type 0) (plan : TestPlan) (report : ReportValue) (ended : Result Exit Fault)
     (output : Device) (f g : Bool) (old new : Option (List ℕ)) → (f ≡ true → g ≡ true)
@@ -67,3 +60,25 @@ carries_on Meets plan report ended output f g old new still (inr (is, inl done))
     } in
     inr (is, inl on)
 carries_on Meets plan report ended output f g old new still (inr (is, inr none)) = inr (is, inr none)
+
+-- ---- what is sent
+
+-- what can't be run isn't sent
+pub send_refused : (options : SendOptions) (why : Refusal) → CanNotRun options.run why → RefusesSend options why
+send_refused options refusal.WaitForServer is = is
+send_refused options refusal.BadProtocols is = is
+send_refused options refusal.BadHeader is = is
+send_refused options refusal.BadTimeout is = is
+send_refused options refusal.TimeoutWithUnit is = is
+send_refused options refusal.BadWait is = is
+send_refused options refusal.WaitWithUnit is = is
+send_refused options refusal.BadDeadline is = is
+send_refused options refusal.DeadlineWithUnit is = is
+send_refused options refusal.BadKey is = is
+send_refused options (refusal.BadAddress given) is = is
+send_refused options refusal.BadConnect is = is
+send_refused options refusal.CaptureInReport is = is
+send_refused options refusal.TimeInMemory is = absurd is
+send_refused options refusal.NotOneCase is = is
+send_refused options refusal.BadMaxFail is = is
+send_refused options (refusal.NoCases why) is = is

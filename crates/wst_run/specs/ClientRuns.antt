@@ -1,9 +1,6 @@
 -- Clients under test that come to an address of a network.
 use Rattle.std.specs.Prelude.{◌≡◌, ◌⊎◌, ⊤, ℕ, Bool, true, false, IsTrue, List, [], ◌∷◌, Option, None, Some, Result, Ok}
 use Rattle.std.specs.Prelude.{Err}
-use Rattle.ws_base.specs.declared.text_fault.TextFault.{TextFault}
-use Rattle.ws_base.specs.declared.text_fault.TextFault.TheVariants as text_fault
-use Rattle.ws_formats.specs.Lines.{Damages}
 use Rattle.ws_wire.specs.declared.role.Role.{Role}
 use Rattle.ws_wire.specs.declared.role.Role.TheVariants.{Client}
 use Rattle.ws_frame.specs.declared.source.DataStyle.{DataStyle}
@@ -11,30 +8,24 @@ use Rattle.ws_frame.specs.Devices.{Device, HasBegun, HasWritten, IsUntouched}
 use Rattle.ws_lines.specs.declared.transcript_lines.Showing.{Showing}
 use Rattle.ws_reports.specs.Reports.{ReportValue}
 use Rattle.ws_scripts.specs.Captures2.{written_capture2}
-use Rattle.ws_scripts.specs.ScriptTexts.{IsScriptText, IsTextOfScript}
 use Rattle.ws_scripts.specs.declared.expectation.Expectation.{Expectation}
 use Rattle.ws_scripts.specs.declared.script.Case.{Case}
 use Rattle.ws_scripts.specs.declared.transcript.Transcript.{Transcript}
 use Rattle.wst_commands.specs.CloseCodes.{HasCodeNotes}
 use Rattle.wst_commands.specs.Devices.{Tells}
 use Rattle.wst_commands.specs.Faults.{Ends}
-use Rattle.wst_commands.specs.ReadingWhole.{ReadsAll, StopsReading, stopped}
-use Rattle.wst_commands.specs.StepDamages.{step_damage}
 use Rattle.wst_commands.specs.TimeLimits.{is_limited}
 use Rattle.wst_commands.specs.declared.exit.Exit.{Exit}
 use Rattle.wst_commands.specs.declared.exit.Exit.TheVariants.{Done, Failed}
 use Rattle.wst_commands.specs.declared.fault.Fault.{Fault}
-use Rattle.wst_commands.specs.declared.fault.Fault.TheVariants.{NoMemory, NotAStep, NotListening}
-use Rattle.wst_commands.specs.declared.fault.ListenFault.{ListenFault}
-use Rattle.wst_commands.specs.declared.reading_whole.ReadStop.{ReadStop}
 use Rattle.wst_clients.specs.ClientCaptures.{CapturesClient, client_capture}
 use Rattle.wst_clients.specs.ClientSends.{ScriptsClient}
 use Rattle.wst_clients.specs.ClientTests.{DocumentsClients, IsVisitFault, TestsClients}
 use Rattle.wst_testing.specs.Hints.{MissesEcho, missed_echo_notes}
 use Rattle.wst_testing.specs.LineWriting.{HasWrittenRun}
-use Rattle.wst_sockets.specs.Listening.{IsToldFor}
+use Rattle.wst_sockets.specs.Listening.{CanNotListen, IsToldFor}
 use Rattle.wst_testing.specs.Notes.{TellsEach}
-use Rattle.wst_sockets.specs.Serve.{listening_line}
+use Rattle.wst_services.specs.Serve.{listening_line}
 use Rattle.wst_clients.specs.Turns.{met_clients}
 use Rattle.wst_clients.specs.Visits.{Unmet, known_by}
 use Rattle.wst_clients.specs.declared.visiting.NoVisit.{NoVisit}
@@ -92,10 +83,6 @@ pub record AreRulesOf (plan : TestPlan) (report : ReportValue) (rules : VisitRul
 abbrev pub StopsAtFirstLine : List ℕ → Result Exit Fault → Device → Device → Type 0
 StopsAtFirstLine address ended output faults = (ended ≡ Ok Failed) × (output.failed ≡ true)
     × HasBegun (listening_line address) output × IsUntouched faults
-
--- nothing can be listened at, or memory ran out; that it is so is not said
-abbrev pub CanNotListen : Fault → Type 0
-CanNotListen fault = ((why : ListenFault) × (fault ≡ NotListening why)) ⊎ (fault ≡ NoMemory)
 
 -- so nothing was written or told
 abbrev pub TestsNone : Result Exit Fault → Device → Device → Type 0
@@ -174,13 +161,16 @@ WritesClientRun style true transcript output =
 abbrev pub MayTellMissed : Expectation → Role → Transcript → Bool → Type 0
 MayTellMissed expected tested transcript missed = (missed ≡ true) → MissesEcho expected tested transcript true
 
--- Behind what was told of the connections it may be told what to type, and only where an echo is expected and the
--- replies are none of one; behind a capture it isn't.
+-- it is told what to type only where an echo is expected and the replies are none of one
+abbrev pub HintsEcho : Expectation → Role → Transcript → Device → Type 0
+HintsEcho expected tested transcript faults = (missed : Bool) × MayTellMissed expected tested transcript missed
+    × TellsEach (missed_echo_notes missed) faults
+
+-- so it may be behind what was told of the connections; behind a capture it isn't
 abbrev pub HintsBehind : Bool → Expectation → Transcript → (Device → Type 0) → Device → Type 0
 HintsBehind true expected transcript Runs faults = Runs faults
-HintsBehind false expected transcript Runs faults = (missed : Bool) × MayTellMissed expected Client transcript missed
-    × ((first : Device) × GoesBefore first faults × Runs first
-    × TellsEach (missed_echo_notes missed) (record faults { old = first.new }))
+HintsBehind false expected transcript Runs faults = (first : Device) × GoesBefore first faults × Runs first
+    × HintsEcho expected Client transcript (record faults { old = first.new })
 
 -- the script of a plan was sent so: where none can come any more, that is the word of the listener
 abbrev pub ScriptsPlan : Type 0 → SendPlan → Case → Option Transcript → Device → Type 0
@@ -192,11 +182,6 @@ abbrev pub BreaksClientRun : Type 0 → SendPlan → Case → Device → Device 
 BreaksClientRun Nobody plan case output faults = (output.failed ≡ true) × ((plan.capture ≡ true)
     → (transcript : Transcript) × ScriptsPlan Nobody plan case (Some transcript) faults
     × HasBegun (written_capture2 (client_capture transcript)) output)
-
--- inside: it was told
-abbrev pub HintsClient : Expectation → Transcript → Device → Type 0
-HintsClient expected transcript faults = (missed : Bool) × MayTellMissed expected Client transcript missed
-    × TellsEach (missed_echo_notes missed) faults
 
 -- The script was run over a client, and that was written; or a write failed, or none came in time or can come any
 -- more; or memory ran out, or nothing could be waited for, and nothing was written of a capture.
@@ -216,39 +201,3 @@ SendsAt address plan case ended output faults =
     ((told : List ℕ) × IsToldFor address told
     × NotesBefore told (λ behind. SendsScript ⊤ plan case ended output behind) faults)
     ⊎ TestsNone ended output faults
-
--- what stops a text that is damaged at this line: what is wrong there is told, or memory ran out for it
-abbrev pub IsDamageFault : List ℕ → ℕ → Fault → Type 0
-IsDamageFault text line fault = (fault ≡ NotAStep line (step_damage text line)) ⊎ (fault ≡ NoMemory)
-
--- what stops a text that is no script
-abbrev pub IsScriptFault : List ℕ → TextFault → Fault → Type 0
-IsScriptFault text (text_fault.Damaged line) fault = IsDamageFault text line fault
-IsScriptFault text text_fault.NoMemory fault = fault ≡ NoMemory
-
--- A script is sent behind the remarks on it; or memory ran out for them, and nothing was written or told.
-abbrev pub SendsNotedAt :
-    List ℕ → SendPlan → Case → List ℕ → Result Exit Fault → Device → Device → Type 0
-SendsNotedAt address plan case text ended output faults =
-    ((first : Device) × GoesBefore first faults × NotesCodes text first
-    × SendsAt address plan case ended output (record faults { old = first.new }))
-    ⊎ ((ended ≡ Err NoMemory) × IsUntouched output × IsUntouched faults)
-
--- a text is a script, which is sent; or it is none, and nothing was written or told
-abbrev pub SendsTextAt : List ℕ → SendPlan → List ℕ → Result Exit Fault → Device → Device → Type 0
-SendsTextAt address plan text ended output faults =
-    ((case : Case) × IsScriptText case text × SendsNotedAt address plan case text ended output faults)
-    ⊎ ((why : TextFault) × Damages IsTextOfScript why text
-    × ((fault : Fault) × IsScriptFault text why fault × (ended ≡ Err fault))
-    × IsUntouched output × IsUntouched faults)
-
--- so of the input; or it could not be read, and nothing was written or told
-abbrev pub SendsInputAt : List ℕ → SendPlan → Result Exit Fault → Device → Device → Device → Type 0
-SendsInputAt address plan ended input output faults =
-    ((text : List ℕ) × ReadsAll text input × SendsTextAt address plan text ended output faults)
-    ⊎ ((why : ReadStop) × StopsReading why input × (ended ≡ stopped why) × IsUntouched output × IsUntouched faults)
-
--- and how that ended is told behind what was told before
-abbrev pub SendsToClientAt : List ℕ → SendPlan → Exit → Device → Device → Device → Type 0
-SendsToClientAt address plan exit input output faults =
-    EndsBehind (λ ended first. SendsInputAt address plan ended input output first) exit faults

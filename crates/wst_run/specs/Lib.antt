@@ -1,5 +1,6 @@
 pub mod Test
 pub mod Send
+pub mod SendNoted
 pub mod Sweep
 pub mod Tap
 pub mod ClientRuns

@@ -17,8 +17,8 @@ use Rattle.wst_commands.specs.Head.{RunsHead}
 use Rattle.wst_commands.specs.Judge.{RunsJudge}
 use Rattle.wst_commands.specs.Pairs.{RunsPair}
 use Rattle.wst_commands.specs.Report.{RunsReport}
-use Rattle.wst_run.specs.Send.{RunsSend}
-use Rattle.wst_sockets.specs.Serve.{RunsServe}
+use Rattle.wst_run.specs.SendNoted.{RunsSend}
+use Rattle.wst_services.specs.Serve.{RunsServe}
 use Rattle.wst_run.specs.Sweep.{RunsSweep}
 use Rattle.wst_run.specs.Tap.{RunsTap}
 use Rattle.wst_commands.specs.Session.{RunsSession}

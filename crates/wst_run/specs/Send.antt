@@ -1,47 +1,46 @@
 -- A run of `send`: the script that comes in is run over the end that the words name, and what went over the
 -- connection is written; or it is told why it is not run.
-use Rattle.std.specs.Prelude.{◌≡◌, ◌⊎◌, ℕ, Bool, true, false, List, None, Result, Ok, Err, MatchResult}
+use Rattle.std.specs.Prelude.{◌≡◌, ◌⊎◌, ◌&&◌, ◌||◌, ℕ, Bool, true, false, not, List, None, Result, Ok, Err}
 use Rattle.ws_base.specs.declared.text_fault.TextFault.{TextFault}
 use Rattle.ws_base.specs.declared.text_fault.TextFault.TheVariants as text_fault
 use Rattle.ws_formats.specs.Lines.{Damages}
 use Rattle.ws_frame.specs.Devices.{Device, HasBegun, HasWritten, IsUntouched}
+use Rattle.ws_handshake.specs.declared.probe_end.HeadRefusal.{HeadRefusal}
+use Rattle.ws_lines.specs.declared.transcript_lines.Showing.{Showing}
 use Rattle.ws_scripts.specs.Captures2.{written_capture2}
 use Rattle.ws_scripts.specs.ScriptTexts.{IsScriptText, IsTextOfScript}
 use Rattle.ws_scripts.specs.declared.expectation.Expectation.{Expectation}
 use Rattle.ws_scripts.specs.declared.script.Case.{Case}
 use Rattle.ws_scripts.specs.declared.transcript.Transcript.{Transcript}
-use Rattle.ws_lines.specs.declared.transcript_lines.Showing.{Showing}
 use Rattle.ws_wire.specs.declared.role.Role.{Role}
 use Rattle.wst_words.specs.declared.send.SendOptions.{SendOptions}
 use Rattle.wst_commands.specs.Devices.{Tells}
-use Rattle.wst_commands.specs.Faults.{LacksMemory, TellsFault}
-use Rattle.wst_commands.specs.ReadingWhole.{ReadsAll, StopsReading}
+use Rattle.wst_commands.specs.ReadingWhole.{ReadsAll, StopsReading, stopped}
 use Rattle.wst_commands.specs.StepDamages.{step_damage}
 use Rattle.wst_commands.specs.declared.exit.Exit.{Exit}
-use Rattle.wst_commands.specs.declared.exit.Exit.TheVariants.{Damaged, Done, Failed}
-use Rattle.wst_commands.specs.declared.fault.Fault.TheVariants as fault
+use Rattle.wst_commands.specs.declared.exit.Exit.TheVariants.{Damaged, Done, Failed, WrongWords}
+use Rattle.wst_commands.specs.declared.fault.Fault.{Fault}
+use Rattle.wst_commands.specs.declared.fault.Fault.TheVariants.{NoMemory, NotAStep}
 use Rattle.wst_commands.specs.declared.reading_whole.ReadStop.{ReadStop}
-use Rattle.wst_commands.specs.declared.reading_whole.ReadStop.TheVariants as read
-use Rattle.wst_run.specs.ClientRuns.{GoesBefore, MayTellMissed, NotesCodes, SendsToClientAt}
-use Rattle.wst_testing.specs.Hints.{missed_echo_notes}
-use Rattle.wst_testing.specs.LineWriting.{HasWrittenRun}
-use Rattle.wst_testing.specs.Notes.{TellsEach}
-use Rattle.wst_testing.specs.Outcomes.{refused_lines}
-use Rattle.wst_testing.specs.Testing.{run_capture}
-use Rattle.wst_testing.specs.Tried.{missed_notes}
-use Rattle.ws_handshake.specs.declared.probe_end.HeadRefusal.{HeadRefusal}
-use Rattle.wst_testing.specs.RunPlans.{IsRunPlan, CanNotRun, TellsRefusal, tested_role}
-use Rattle.wst_testing.specs.declared.run_plans.UsualTimes.TheVariants.{OfScript}
-use Rattle.wst_testing.specs.Servers.{MeetsAtTarget, MeetsInMemory, ShowsTarget}
-use Rattle.wst_testing.specs.declared.run_plans.Refusal.{Refusal}
-use Rattle.wst_testing.specs.declared.run_plans.TestedEnd.{TestedEnd}
-use Rattle.wst_testing.specs.declared.run_plans.TestedEnd.TheVariants.{Clients, Memory, Server}
+use Rattle.wst_sockets.specs.declared.meeting.ConnectFault.{ConnectFault}
 use Rattle.wst_sockets.specs.declared.meeting.ConnectFault.TheVariants as why
 use Rattle.wst_sockets.specs.declared.meeting.Meeting.{Meeting}
 use Rattle.wst_sockets.specs.declared.meeting.Meeting.TheVariants.{NoConnection, Ran, Refused}
+use Rattle.wst_testing.specs.LineWriting.{HasWrittenRun}
+use Rattle.wst_testing.specs.Notes.{TellsEach}
+use Rattle.wst_testing.specs.Outcomes.{refused_lines}
+use Rattle.wst_testing.specs.RunPlans.{IsRunPlan, CanNotRun, is_in_memory, tested_role}
+use Rattle.wst_testing.specs.Servers.{MeetsAtTarget, MeetsInMemory, ShowsTarget}
+use Rattle.wst_testing.specs.Testing.{run_capture}
+use Rattle.wst_testing.specs.Tried.{missed_notes}
+use Rattle.wst_testing.specs.declared.run_plans.Refusal.{Refusal}
+use Rattle.wst_testing.specs.declared.run_plans.Refusal.TheVariants as refusal
+use Rattle.wst_testing.specs.declared.run_plans.RunPlan.{RunPlan}
+use Rattle.wst_testing.specs.declared.run_plans.TestedEnd.{TestedEnd}
+use Rattle.wst_testing.specs.declared.run_plans.TestedEnd.TheVariants.{Clients, Memory, Server}
+use Rattle.wst_testing.specs.declared.run_plans.UsualTimes.TheVariants.{OfScript}
+use Rattle.wst_run.specs.ClientRuns.{EndsBehind, GoesBefore, HintsEcho, NotesCodes, SendsAt}
 use Rattle.wst_run.specs.declared.send.SendPlan.{SendPlan}
-use Rattle.wst_run.specs.declared.send.SendStop.{SendStop}
-use Rattle.wst_run.specs.declared.send.SendStop.TheVariants as stop
 
 -- ---- what the words ask for
 
@@ -50,6 +49,19 @@ pub record IsSendPlan (options : SendOptions) (plan : SendPlan) : Type 0 where
   pub run : IsRunPlan OfScript options.run plan.run
   pub capture : plan.capture ≡ options.capture
   pub style : plan.style ≡ options.style
+  pub time : plan.time ≡ options.time
+  pub heads : plan.heads ≡ options.heads
+  pub apart : options.time ≡ true → is_in_memory plan.run.tested ≡ false
+
+-- The first of these that applies: the words can't be run; times are asked for, and the end stands in memory.
+abbrev pub RefusesSend : SendOptions → Refusal → Type 0
+RefusesSend options refusal.TimeInMemory = (options.time ≡ true)
+    × ((run : RunPlan) × IsRunPlan OfScript options.run run × (is_in_memory run.tested ≡ true))
+RefusesSend options other = CanNotRun options.run other
+
+-- its lines have times or heads: a capture has neither
+abbrev pub is_noted : SendPlan → Bool
+is_noted plan = not plan.capture && (plan.time || plan.heads)
 
 -- ---- what is written
 
@@ -71,112 +83,79 @@ abbrev pub MeetsAs : Bool → (Case → Meeting → Type 0) → (Case → Meetin
 MeetsAs true Captures Shows case meeting = Captures case meeting
 MeetsAs false Captures Shows case meeting = Shows case meeting
 
--- a beginning of the capture of a run was written, where one is asked for; of lines it is not said what was written
+-- A beginning of the capture of a run was written, where one is asked for; of lines it is not said what was written.
 abbrev pub HasBegunRun : (Case → Meeting → Type 0) → SendPlan → Case → Device → Type 0
 HasBegunRun Meets plan case output = (plan.capture ≡ true) → (transcript : Transcript) × Meets case (Ran transcript)
     × HasBegun (written_capture2 (run_capture (tested_role plan.run.tested) plan.run.key transcript)) output
 
--- Why a script was not run to its end, over one of the ends that meet cases so: the output has failed; or memory ran
--- out, and nothing was written of a capture; or there is no connection, or its answer is refused, and nothing was
--- written; or no capture is asked for, and the network could not be waited for: so there may be no connection.
-abbrev pub StopsSending : (Case → Meeting → Type 0) → SendPlan → Case → SendStop → Device → Type 0
-StopsSending Meets plan case stop.Device output = (output.failed ≡ true) × HasBegunRun Meets plan case output
-StopsSending Meets plan case (stop.NotAStep line damage) output = ⊥
-StopsSending Meets plan case (stop.Refused refusal) output = Meets case (Refused refusal) × IsUntouched output
-StopsSending Meets plan case (stop.NoConnection reason) output =
-    Meets case (NoConnection reason) × IsUntouched output
-StopsSending Meets plan case stop.Network output = (plan.capture ≡ false) × Meets case (NoConnection why.Failed)
-StopsSending Meets plan case stop.NoMemory output = (plan.capture ≡ true) → IsUntouched output
+-- Behind lines it may be told what to type, only where an echo is expected and the replies are none of one; behind a
+-- capture nothing is told.
+abbrev pub HintsRun : Bool → Expectation → Role → Transcript → Device → Type 0
+HintsRun true expected tested transcript faults = IsUntouched faults
+HintsRun false expected tested transcript faults = HintsEcho expected tested transcript faults
 
--- It may be told that the replies are none of an echo; behind a capture that is not asked.
-abbrev pub MissesEchoIn : Bool → Expectation → Role → Transcript → Bool → Type 0
-MissesEchoIn true expected tested transcript missed = missed ≡ false
-MissesEchoIn false expected tested transcript missed = MayTellMissed expected tested transcript missed
+-- nothing was written; or lines may have been, before the network could not be waited for any more
+abbrev pub MayHaveLines : SendPlan → ConnectFault → Device → Type 0
+MayHaveLines plan reason output = IsUntouched output ⊎ ((plan.capture ≡ false) × (reason ≡ why.Failed))
 
--- the script was run over one of the ends that meet cases so, that was written, and it may be told that the replies are
--- none of an echo, only where that is so; or why not
-abbrev pub SendsCase : (Case → Meeting → Type 0) → SendPlan → Case → Result Bool SendStop → Device → Type 0
-SendsCase Meets plan case ended output = MatchResult ended
-    (λ missed. (transcript : Transcript) × Meets case (Ran transcript) × WritesRun plan transcript output
-    × MissesEchoIn plan.capture plan.run.expected (tested_role plan.run.tested) transcript missed)
-    (λ why. StopsSending Meets plan case why output)
+-- The script was run over one of the ends that meet cases so, and that was written; or its answer is refused, or there
+-- is no connection, which is told; or the output has failed; or memory ran out, and nothing was written of a capture.
+abbrev pub SendsCase : (Case → Meeting → Type 0) → SendPlan → Case → Result Exit Fault → Device → Device → Type 0
+SendsCase Meets plan case (Ok Done) output faults = (transcript : Transcript) × Meets case (Ran transcript)
+    × WritesRun plan transcript output
+    × HintsRun plan.capture plan.run.expected (tested_role plan.run.tested) transcript faults
+SendsCase Meets plan case (Ok Damaged) output faults = (refusal : HeadRefusal) × Meets case (Refused refusal)
+    × Tells (refused_lines refusal) faults × IsUntouched output
+SendsCase Meets plan case (Ok Failed) output faults =
+    ((output.failed ≡ true) × HasBegunRun Meets plan case output × IsUntouched faults)
+    ⊎ ((reason : ConnectFault) × Meets case (NoConnection reason)
+    × TellsEach (missed_notes plan.run.tested reason) faults × MayHaveLines plan reason output)
+SendsCase Meets plan case (Ok WrongWords) output faults = ⊥
+SendsCase Meets plan case (Err fault) output faults =
+    (fault ≡ NoMemory) × IsUntouched faults × ((plan.capture ≡ true) → IsUntouched output)
+
+-- so over this end
+abbrev pub SendsCaseOver : TestedEnd → SendPlan → Case → Result Exit Fault → Device → Device → Type 0
+SendsCaseOver (Memory end) plan case ended output faults =
+    SendsCase (MeetsInMemory end plan.run.key) plan case ended output faults
+SendsCaseOver (Server target) plan case ended output faults =
+    SendsCase (MeetsAs plan.capture (MeetsAtTarget target plan.run) (ShowsTarget target plan.run)) plan case ended
+    output faults
+SendsCaseOver (Clients address) plan case ended output faults = SendsAt address.now plan case ended output faults
+
+-- ---- the script
 
 -- what stops a text that is damaged at this line: what is wrong there is told, or memory ran out for it
-abbrev pub IsDamageStop : List ℕ → ℕ → SendStop → Type 0
-IsDamageStop text line why = (why ≡ stop.NotAStep line (step_damage text line)) ⊎ (why ≡ stop.NoMemory)
+abbrev pub IsDamageFault : List ℕ → ℕ → Fault → Type 0
+IsDamageFault text line fault = (fault ≡ NotAStep line (step_damage text line)) ⊎ (fault ≡ NoMemory)
 
 -- what stops a text that is no script
-abbrev pub IsScriptStop : List ℕ → TextFault → SendStop → Type 0
-IsScriptStop text (text_fault.Damaged line) why = IsDamageStop text line why
-IsScriptStop text text_fault.NoMemory why = why ≡ stop.NoMemory
+abbrev pub IsScriptFault : List ℕ → TextFault → Fault → Type 0
+IsScriptFault text (text_fault.Damaged line) fault = IsDamageFault text line fault
+IsScriptFault text text_fault.NoMemory fault = fault ≡ NoMemory
 
--- The text is a script: remarks on it were told, and it was sent so; or memory ran out for them, and nothing was told
--- or written.
-abbrev pub SendsScriptText :
-    (Case → Meeting → Type 0) → SendPlan → Case → List ℕ → Result Bool SendStop → Device → Device → Type 0
-SendsScriptText Meets plan case text ended output faults =
-    (NotesCodes text faults × SendsCase Meets plan case ended output)
-    ⊎ ((ended ≡ Err stop.NoMemory) × IsUntouched output × IsUntouched faults)
+-- A script is sent behind the remarks on it; or memory ran out for them, and nothing was written or told.
+abbrev pub SendsNoted : SendPlan → Case → List ℕ → Result Exit Fault → Device → Device → Type 0
+SendsNoted plan case text ended output faults =
+    ((first : Device) × GoesBefore first faults × NotesCodes text first
+    × SendsCaseOver plan.run.tested plan case ended output (record faults { old = first.new }))
+    ⊎ ((ended ≡ Err NoMemory) × IsUntouched output × IsUntouched faults)
 
--- the text is a script, which was sent so; or it is none, and nothing was written or told
-abbrev pub SendsText :
-    (Case → Meeting → Type 0) → SendPlan → List ℕ → Result Bool SendStop → Device → Device → Type 0
-SendsText Meets plan text ended output faults =
-    ((case : Case) × IsScriptText case text × SendsScriptText Meets plan case text ended output faults)
-    ⊎ ((fault : TextFault) × Damages IsTextOfScript fault text
-    × ((why : SendStop) × IsScriptStop text fault why × (ended ≡ Err why)) × IsUntouched output × IsUntouched faults)
+-- a text is a script, which is sent; or it is none, and nothing was written or told
+abbrev pub SendsText : SendPlan → List ℕ → Result Exit Fault → Device → Device → Type 0
+SendsText plan text ended output faults =
+    ((case : Case) × IsScriptText case text × SendsNoted plan case text ended output faults)
+    ⊎ ((damage : TextFault) × Damages IsTextOfScript damage text
+    × ((fault : Fault) × IsScriptFault text damage fault × (ended ≡ Err fault))
+    × IsUntouched output × IsUntouched faults)
 
-abbrev pub input_stop : ReadStop → SendStop
-input_stop read.Fault = stop.Device
-input_stop read.NoMemory = stop.NoMemory
+-- so of the input; or it could not be read, and nothing was written or told
+abbrev pub SendsInput : SendPlan → Result Exit Fault → Device → Device → Device → Type 0
+SendsInput plan ended input output faults =
+    ((text : List ℕ) × ReadsAll text input × SendsText plan text ended output faults)
+    ⊎ ((stop : ReadStop) × StopsReading stop input × (ended ≡ stopped stop) × IsUntouched output × IsUntouched faults)
 
--- the input was read whole, and sent so; or it could not be read, and nothing was written or told
-abbrev pub SendsInput :
-    (Case → Meeting → Type 0) → SendPlan → Result Bool SendStop → Device → Device → Device → Type 0
-SendsInput Meets plan ended input output faults =
-    ((text : List ℕ) × ReadsAll text input × SendsText Meets plan text ended output faults)
-    ⊎ ((why : ReadStop) × StopsReading why input × (ended ≡ Err (input_stop why)) × IsUntouched output
-    × IsUntouched faults)
-
--- ---- what is told on the fault output, and the exit
-
--- the answer of a server is to be refused: with its status, where that is why
-abbrev pub TellsRefused : HeadRefusal → Exit → Device → Type 0
-TellsRefused refusal exit faults =
-    ((exit ≡ Damaged) × Tells (refused_lines refusal) faults) ⊎ LacksMemory exit faults
-
-abbrev pub TellsSendEnd : TestedEnd → Result Bool SendStop → Exit → Device → Type 0
-TellsSendEnd end (Ok missed) exit faults = (exit ≡ Done) × TellsEach (missed_echo_notes missed) faults
-TellsSendEnd end (Err stop.Device) exit faults = (exit ≡ Failed) × IsUntouched faults
-TellsSendEnd end (Err (stop.NotAStep line damage)) exit faults = TellsFault (fault.NotAStep line damage) exit faults
-TellsSendEnd end (Err (stop.Refused refusal)) exit faults = TellsRefused refusal exit faults
-TellsSendEnd end (Err (stop.NoConnection reason)) exit faults =
-    (exit ≡ Failed) × TellsEach (missed_notes end reason) faults
-TellsSendEnd end (Err stop.Network) exit faults = (exit ≡ Failed) × TellsEach (missed_notes end why.Failed) faults
-TellsSendEnd end (Err stop.NoMemory) exit faults = LacksMemory exit faults
-
--- ---- a run
-
--- the plan is carried out over ends that meet cases so, and how that ended is told behind what was told before
-abbrev pub RunsSendPlan : (Case → Meeting → Type 0) → SendPlan → Exit → Device → Device → Device → Type 0
-RunsSendPlan Meets plan exit input output faults = (ended : Result Bool SendStop) × (first : Device)
-    × GoesBefore first faults × SendsInput Meets plan ended input output first
-    × TellsSendEnd plan.run.tested ended exit (record faults { old = first.new })
-
--- the plan is carried out over this end
-abbrev pub SendsOver : TestedEnd → SendPlan → Exit → Device → Device → Device → Type 0
-SendsOver (Memory end) plan exit input output faults =
-    RunsSendPlan (MeetsInMemory end plan.run.key) plan exit input output faults
-SendsOver (Server target) plan exit input output faults =
-    RunsSendPlan (MeetsAs plan.capture (MeetsAtTarget target plan.run) (ShowsTarget target plan.run)) plan exit input
-    output faults
-SendsOver (Clients address) plan exit input output faults =
-    SendsToClientAt address.now plan exit input output faults
-
--- A run of `send`: the script that comes in is run as the words ask; or nothing is read, and it is told why.
-abbrev pub RunsSend : SendOptions → Exit → Device → Device → Device → Type 0
-RunsSend options exit input output faults =
-    ((plan : SendPlan) × IsSendPlan options plan
-    × SendsOver plan.run.tested plan exit input output faults)
-    ⊎ ((reason : Refusal) × CanNotRun options.run reason × IsUntouched input × IsUntouched output
-    × TellsRefusal reason exit faults)
+-- the plan is carried out over its end, and how that ended is told behind what was told before
+abbrev pub SendsOver : SendPlan → Exit → Device → Device → Device → Type 0
+SendsOver plan exit input output faults =
+    EndsBehind (λ ended first. SendsInput plan ended input output first) exit faults

@@ -1,5 +1,5 @@
 -- A run of `sweep`: every short script is run over the end that the words name; or it is told why none is.
-use Rattle.std.specs.Prelude.{◌≡◌, ◌⊎◌, ℕ, ◌<◌, ◌≤◌, List, Option, Result, codes}
+use Rattle.std.specs.Prelude.{◌≡◌, ◌⊎◌, ℕ, ◌<◌, ◌≤◌, List, Option, None, Result, codes}
 use Rattle.ws_frame.specs.Devices.{Device, IsUntouched}
 use Rattle.ws_scripts.specs.declared.script.Case.{Case}
 use Rattle.ws_sweep.specs.Order.{max_steps}
@@ -60,14 +60,18 @@ TellsSweepRefusal (Other why) exit faults = TellsRefusal why exit faults
 -- how its scripts are run
 abbrev pub sweep_rules_of : SweepPlan → SweepRules
 sweep_rules_of plan = record {
-  tested = tested_role plan.run.tested;
-  expected = plan.run.expected;
+  run = record {
+    tested = tested_role plan.run.tested;
+    expected = plan.run.expected;
+    key = plan.run.key;
+    explains = None;
+    progress = plan.progress;
+    is_limited = plan.run.gives_limit;
+    max_fail = plan.max_fail;
+  };
   steps = plan.steps;
   all = plan.all;
-  progress = plan.progress;
-  key = plan.run.key;
   names = tells_waits plan.run;
-  max_fail = plan.max_fail;
 }
 
 -- the plan is carried out over ends that meet cases so, and how that ended is told behind what was told before

@@ -1,18 +1,18 @@
 -- What `tap` is asked for, and its run.
-use Rattle.std.specs.Prelude.{◌≡◌, ◌⊎◌, ⊤, false, List, ℕ, Result, codes}
+use Rattle.std.specs.Prelude.{◌≡◌, ◌⊎◌, ⊤, false, Bool, List, ℕ, Option, Result, codes}
 use Rattle.ws_frame.specs.Devices.{Device, IsUntouched}
-use Rattle.ws_frame.specs.declared.source.DataStyle.{DataStyle}
 use Rattle.ws_targets.specs.Places.{IsAddress}
 use Rattle.ws_targets.specs.Targets.{IsTargetText, TargetValue}
 use Rattle.wst_words.specs.declared.tap.TapOptions.{TapOptions}
 use Rattle.wst_commands.specs.Devices.{Tells}
-use Rattle.wst_commands.specs.Faults.{Ends, LacksMemory}
+use Rattle.wst_commands.specs.Faults.{Ends, LacksMemory, TellsFault}
+use Rattle.wst_commands.specs.TimeLimits.{IsCountWord}
 use Rattle.wst_commands.specs.declared.exit.Exit.{Exit}
 use Rattle.wst_commands.specs.declared.exit.Exit.TheVariants.{WrongWords}
 use Rattle.wst_commands.specs.declared.fault.Fault.{Fault}
-use Rattle.wst_sockets.specs.Listening.{IsToldFor}
-use Rattle.wst_sockets.specs.Serve.{StopsAtListening, ServesNone, listening_line}
-use Rattle.wst_sockets.specs.Tapping.{TapsPairs}
+use Rattle.wst_commands.specs.declared.fault.Fault.TheVariants.{BadAtOnce}
+use Rattle.wst_services.specs.Tapping.{TapsAt}
+use Rattle.wst_services.specs.declared.tapping.TapPlan.{TapPlan}
 use Rattle.wst_testing.specs.RunPlans.{IsUrl}
 use Rattle.ws_targets.specs.Advice.{Advises}
 use Rattle.ws_targets.specs.declared.advice.Advice.{Advice}
@@ -21,28 +21,12 @@ use Rattle.ws_targets.specs.declared.advice.Advice.TheVariants.{Unencoded, Url, 
 use Rattle.wst_run.specs.declared.tap.TapRefusal.{TapRefusal}
 use Rattle.wst_run.specs.declared.tap.TapRefusal.TheVariants.{BadListen, BadTarget, NoMemory}
 
--- it is told that connections to this address are taken, and then they are tapped; or the line came to nothing
-abbrev pub TapsToldAt : DataStyle → ℕ → List ℕ → Result Exit Fault → Device → Type 0
-TapsToldAt style count address ended output =
-    TapsPairs style count (listening_line address) ended output ⊎ StopsAtListening address ended output
-
--- what is told of the address is told, and then connections are tapped; or nothing can be listened at
-abbrev pub TapsAt : TapOptions → Result Exit Fault → Device → Type 0
-TapsAt options ended output =
-    ((address : List ℕ) × IsToldFor options.listen.now address
-    × TapsToldAt options.style options.count address ended output)
-    ⊎ ServesNone ended output
-
 -- the word names the server: as a `ws` URL, of which the host and the port count; or as a host and a port
 abbrev pub IsServer : List ℕ → TargetValue → Type 0
 IsServer word target = (IsUrl word ⊎ IsAddress word) × IsTargetText word target
 
 abbrev pub NamesServer : List ℕ → Type 0
 NamesServer word = (target : TargetValue) × IsServer word target
-
--- both ends are named: where to listen by a host and a port
-abbrev pub HasBothEnds : TapOptions → Type 0
-HasBothEnds options = IsAddress options.listen.now × NamesServer options.target.now
 
 -- the ends are named, and this is the server
 abbrev pub IsServerOf : TapOptions → TargetValue → Type 0
@@ -81,9 +65,29 @@ TellsTapRefusal BadListen exit faults = (exit ≡ WrongWords)
 TellsTapRefusal (BadTarget advice) exit faults = (exit ≡ WrongWords) × Tells (tap_target_text advice) faults
 TellsTapRefusal NoMemory exit faults = LacksMemory exit faults
 
--- what the words ask for is tapped, and how that ended is told; or it is told why not, and nothing was written
+-- what the words ask for, of the server at this address
+abbrev pub IsTapPlan : TapOptions → List ℕ → TapPlan → Type 0
+IsTapPlan options server plan = (plan.server.now ≡ server) × (plan.listen ≡ options.listen)
+    × (plan.count ≡ options.count) × (plan.style ≡ options.style)
+    × IsCountWord 1000 plan.at_once options.at_once.now
+
+-- connections are tapped as is asked for, and how that ended is told behind what was told before
+abbrev pub RunsTapPlan : TapPlan → Exit → Device → Device → Type 0
+RunsTapPlan plan exit output faults = (ended : Result Exit Fault) × (mid : Option (List ℕ)) × (failed : Bool)
+    × TapsAt plan ended output (record { failed = failed; old = faults.old; new = mid })
+    × Ends ended exit (record { failed = faults.failed; old = mid; new = faults.new })
+
+-- those to the server at this address are; or the word gives no number of them that can go on at a time, which is told,
+-- and nothing was written
+abbrev pub TapsServer : TapOptions → List ℕ → Exit → Device → Device → Type 0
+TapsServer options server exit output faults =
+    ((plan : TapPlan) × IsTapPlan options server plan × RunsTapPlan plan exit output faults)
+    ⊎ (((count : ℕ) → IsCountWord 1000 count options.at_once.now → ⊥) × IsUntouched output
+    × (output.failed ≡ false) × TellsFault BadAtOnce exit faults)
+
+-- those to the server that the words name are; or it is told why not, and nothing was written
 abbrev pub RunsTap : TapOptions → Exit → Device → Device → Type 0
 RunsTap options exit output faults =
-    (HasBothEnds options × ((ended : Result Exit Fault) × TapsAt options ended output × Ends ended exit faults))
+    ((server : TargetValue) × IsServerOf options server × TapsServer options server.address exit output faults)
     ⊎ ((reason : TapRefusal) × RefusesEnds options reason × IsUntouched output × (output.failed ≡ false)
     × TellsTapRefusal reason exit faults)

@@ -9,48 +9,46 @@ ghost use Rattle.ws_upgrade.specs.Protocols.{AreOffers};
 ghost use Rattle.wst_commands.specs.Devices.{StaysFailed};
 ghost use Rattle.wst_commands.specs.declared.exit.Exit.TheVariants.{Failed};
 ghost use Rattle.wst_clients.specs.ClientTests.{IsVisitFault};
-ghost use Rattle.wst_run.specs.ClientRuns.{AreRulesOf, AreScriptRulesOf, HintsClient, IsDamageFault};
-ghost use Rattle.wst_run.specs.ClientRuns.{IsJobFor, IsJobOf, SendsAt, SendsInputAt, SendsScript, SendsTextAt};
-ghost use Rattle.wst_run.specs.ClientRuns.{SendsToClientAt, TestsAt, TestsClientsAt, VisitsAt, VisitsTold};
-ghost use Rattle.wst_run.specs.ClientRuns.{client_showing};
+ghost use Rattle.wst_run.specs.ClientRuns.{AreRulesOf, AreScriptRulesOf, IsJobFor, IsJobOf, SendsAt, SendsScript};
+ghost use Rattle.wst_run.specs.ClientRuns.{TestsAt, TestsClientsAt, VisitsAt, VisitsTold, client_showing};
 ghost use Rattle.wst_testing.specs.Notes.{TellsEach};
-ghost use Rattle.wst_sockets.specs.Serve.{listening_line};
+ghost use Rattle.wst_services.specs.Serve.{listening_line};
 ghost use Rattle.wst_run.specs.Test.{CanBeTested};
 ghost use Rattle.wst_clients.specs.Turns.{unmet_as};
 ghost use Rattle.wst_clients.specs.Visitors.{AreHeld, AreTestedBy};
 ghost use Rattle.wst_clients.specs.Visits.{known_by};
 
-use crate::client_site::{ClientSite, listen_at, telling};
-use crate::send::{SendPlan, missed_echo, note_codes};
+use crate::send::{SendPlan, hint_echo};
+use crate::site::{Site, telling};
 use crate::test::TestPlan;
 use std::alloc::Global;
 use std::cell::Cell;
-use std::io::{Read, Write};
+use std::io::Write;
 use std::slice;
-use ws_base::{NoMemory, TextFault};
+use ws_base::NoMemory;
 use ws_frame::{DataStyle, Watched};
 use ws_lines::Showing;
 use ws_loops::{Listener, Poller};
 use ws_reports::Report;
-use ws_suite::{Case, Expectation, Transcript, read_script};
+use ws_suite::Case;
 use ws_tester::Tester;
 use ws_wire::Role;
 use wst_clients::{
     ClientDocument, ScriptRules, Telling, VisitRules, Visitors, capture_client, document_clients,
     script_client, show_client, test_clients,
 };
-use wst_commands::{
-    Exit, Fault, ListenFault, ReadStop, deliver, end_run, read_whole, step_damage, tell,
-};
+use wst_commands::{Exit, Fault, ListenFault, deliver, end_run, tell};
 use wst_network::Connector;
-use wst_sockets::{Network, Notice, Running, Waits, listening_line, tell_listening};
-use wst_testing::{LineStop, RunPlan, capture_text, tell_missed_echo};
+use wst_services::{listening_line, tell_listening};
+use wst_sockets::{Network, Notice, Running, Waits, listen_over};
+use wst_testing::{LineStop, RunPlan, capture_text};
 
 /// Listens at an address, which is told in a line, with the port that the system chose in the place of a port 0, and
 /// tests the clients that come, as a plan asks, and tells of them as a report does. Where a capture or a document is
 /// asked for, that line goes to `faults`. Why nothing can be listened at is told there too.
 pub(crate) fn test_clients_at<N: Network, C: Connector, W: Write, F: Write>(
-    site: &ClientSite<'_, N, C>,
+    site: Site<'_, '_, N, C>,
+    address: &str,
     plan: &TestPlan<'_>,
     report: &Report,
     writer: &mut Watched<W>,
@@ -58,16 +56,18 @@ pub(crate) fn test_clients_at<N: Network, C: Connector, W: Write, F: Write>(
 ) -> Exit
     requires works { has_failed writer.old ≡ false }
     requires plan { CanBeTested plan.now }
-    ensures { TestsClientsAt site.now.address.now plan.now report.now result (watched W.contents writer.old writer.new)
+    ensures { TestsClientsAt address.now plan.now report.now result (watched W.contents writer.old writer.new)
         (watched F.contents faults.old faults.new) }
 {
-    let ended = test_at(site, plan, report, writer, faults);
-    end_run(site.alloc, ended, faults)
+    let alloc = site.alloc;
+    let ended = test_at(site, address, plan, report, writer, faults);
+    end_run(alloc, ended, faults)
 }
 
 /// Listens at an address, and tests the clients that come.
 fn test_at<N: Network, C: Connector, W: Write, F: Write>(
-    site: &ClientSite<'_, N, C>,
+    site: Site<'_, '_, N, C>,
+    address: &str,
     plan: &TestPlan<'_>,
     report: &Report,
     writer: &mut Watched<W>,
@@ -75,14 +75,14 @@ fn test_at<N: Network, C: Connector, W: Write, F: Write>(
 ) -> Result<Exit, Fault>
     requires works { has_failed writer.old ≡ false }
     requires plan { CanBeTested plan.now }
-    ensures tests { TestsAt site.now.address.now plan.now report.now result (watched W.contents writer.old writer.new)
+    ensures tests { TestsAt address.now plan.now report.now result (watched W.contents writer.old writer.new)
         (watched F.contents faults.old faults.new) }
     ensures still { StaysFailed faults.old faults.new }
 {
     let rules = visit_rules(plan, report);
     let job = client_job(plan, report);
     let visits = ClientRun { rules: &rules, job };
-    visit_at(site, &plan.run, visits, writer, faults)
+    visit_at(site, address, &plan.run, visits, writer, faults)
 }
 
 /// What is written of the clients of a plan.
@@ -121,7 +121,8 @@ pub(crate) struct ClientRun<'a> {
 
 /// Listens at an address, and tests the clients that come.
 pub(crate) fn visit_at<N: Network, C: Connector, W: Write, F: Write>(
-    site: &ClientSite<'_, N, C>,
+    site: Site<'_, '_, N, C>,
+    address: &str,
     run: &RunPlan<'_>,
     visits: ClientRun<'_>,
     writer: &mut Watched<W>,
@@ -133,11 +134,11 @@ pub(crate) fn visit_at<N: Network, C: Connector, W: Write, F: Write>(
     requires known { AreOffers (known_by visits.rules.now) }
     requires protocols { known_by visits.rules.now ≡ run.now.protocols }
     requires wait { visits.rules.now.wait ≡ run.now.wait }
-    ensures tests { VisitsAt site.now.address.now visits.entry.job visits.entry.rules.now result
+    ensures tests { VisitsAt address.now visits.entry.job visits.entry.rules.now result
         (watched W.contents writer.old writer.new) (watched F.contents faults.old faults.new) }
     ensures still { StaysFailed faults.old faults.new }
 {
-    let heard = listen_at(site)?;
+    let heard = listen_over(site.alloc, site.connector, address)?;
     let number = Cell::new(None);
     let notice = Cell::new(Notice::of(run.timeout));
     let running = Running {
@@ -153,8 +154,8 @@ pub(crate) fn visit_at<N: Network, C: Connector, W: Write, F: Write>(
         waits_of(run),
         &number,
     )?;
-    let address = heard.told.as_slice();
-    test_told(site.alloc, &mut visitors, address, visits, writer, faults)
+    let told = heard.told.as_slice();
+    test_told(site.alloc, &mut visitors, told, visits, writer, faults)
 }
 
 /// How long the clients of a plan are waited for, and how long a connection to one lasts.
@@ -243,81 +244,11 @@ pub(crate) fn note_listening<F: Write>(
     Ok(())
 }
 
-/// Reads a script, listens at an address, which is told to `faults` in a line, and sends the script to the first client
-/// whose request is accepted, as a plan asks.
-pub(crate) fn send_to_clients_at<N: Network, C: Connector, R: Read, W: Write, F: Write>(
-    site: &ClientSite<'_, N, C>,
-    plan: &SendPlan<'_>,
-    reader: &mut Watched<R>,
-    writer: &mut Watched<W>,
-    faults: &mut Watched<F>,
-) -> Exit
-    requires reader_works { has_failed reader.old ≡ false }
-    requires writer_works { has_failed writer.old ≡ false }
-    ensures { SendsToClientAt site.now.address.now plan.now result (watched R.remaining reader.old reader.new)
-        (watched W.contents writer.old writer.new) (watched F.contents faults.old faults.new) }
-{
-    let ended = send_input(site, plan, reader, writer, faults);
-    end_run(site.alloc, ended, faults)
-}
-
-/// Reads a script, and sends it to a client.
-fn send_input<N: Network, C: Connector, R: Read, W: Write, F: Write>(
-    site: &ClientSite<'_, N, C>,
-    plan: &SendPlan<'_>,
-    reader: &mut Watched<R>,
-    writer: &mut Watched<W>,
-    faults: &mut Watched<F>,
-) -> Result<Exit, Fault>
-    requires reader_works { has_failed reader.old ≡ false }
-    requires writer_works { has_failed writer.old ≡ false }
-    ensures sends { SendsInputAt site.now.address.now plan.now result (watched R.remaining reader.old reader.new)
-        (watched W.contents writer.old writer.new) (watched F.contents faults.old faults.new) }
-    ensures still { StaysFailed faults.old faults.new }
-{
-    match read_whole(site.alloc, reader) {
-        Ok(text) => send_text(site, plan, text.as_slice(), writer, faults),
-        Err(ReadStop::Fault) => Ok(Exit::Failed),
-        Err(ReadStop::NoMemory) => Err(Fault::NoMemory),
-    }
-}
-
-/// Sends the script that a text is.
-fn send_text<N: Network, C: Connector, W: Write, F: Write>(
-    site: &ClientSite<'_, N, C>,
-    plan: &SendPlan<'_>,
-    text: &[u8],
-    writer: &mut Watched<W>,
-    faults: &mut Watched<F>,
-) -> Result<Exit, Fault>
-    requires writer_works { has_failed writer.old ≡ false }
-    ensures sends { SendsTextAt site.now.address.now plan.now text.now result (watched W.contents writer.old writer.new)
-        (watched F.contents faults.old faults.new) }
-    ensures still { StaysFailed faults.old faults.new }
-{
-    match read_script(site.alloc, text) {
-        Ok(case) => {
-            note_codes(site.alloc, text, faults)?;
-            send_at(site, plan, &case, writer, faults)
-        }
-        Err(TextFault::Damaged(line)) => Err(damage_fault(site.alloc, text, line)),
-        Err(TextFault::NoMemory) => Err(Fault::NoMemory),
-    }
-}
-
-/// What stops a text that is damaged at this line.
-fn damage_fault(alloc: Global, text: &[u8], line: u64) -> Fault
-    ensures { IsDamageFault text.now line result }
-{
-    match step_damage(alloc, text, line) {
-        Ok(damage) => Fault::NotAStep(line, damage),
-        Err(_) => Fault::NoMemory,
-    }
-}
-
-/// Listens at an address, which is told, and sends a script to a client that comes.
-fn send_at<N: Network, C: Connector, W: Write, F: Write>(
-    site: &ClientSite<'_, N, C>,
+/// Listens at an address, which is told to `faults` in a line, and sends a script to the first client whose request is
+/// accepted, as a plan asks.
+pub(crate) fn send_at<N: Network, C: Connector, W: Write, F: Write>(
+    site: Site<'_, '_, N, C>,
+    address: &str,
     plan: &SendPlan<'_>,
     case: &Case,
     writer: &mut Watched<W>,
@@ -325,11 +256,11 @@ fn send_at<N: Network, C: Connector, W: Write, F: Write>(
 ) -> Result<Exit, Fault>
     requires writer_works { has_failed writer.old ≡ false }
     requires can { CanBeRun case.now }
-    ensures sends { SendsAt site.now.address.now plan.now case.now result (watched W.contents writer.old writer.new)
+    ensures sends { SendsAt address.now plan.now case.now result (watched W.contents writer.old writer.new)
         (watched F.contents faults.old faults.new) }
     ensures still { StaysFailed faults.old faults.new }
 {
-    let heard = listen_at(site)?;
+    let heard = listen_over(site.alloc, site.connector, address)?;
     note_listening(site.alloc, heard.told.as_slice(), faults)?;
     let number = Cell::new(Some(1));
     let notice = Cell::new(Notice::of(plan.run.timeout));
@@ -415,7 +346,7 @@ fn show_script<L: Listener + Drop, P: Poller + Drop, W: Write, F: Write>(
     let Some(transcript) = sent else {
         return Ok(Exit::Failed);
     };
-    hint_client(alloc, plan.run.expected, &transcript, faults);
+    hint_echo(alloc, Role::Client, plan.run.expected, &transcript, faults);
     Ok(Exit::Done)
 }
 
@@ -445,20 +376,6 @@ fn client_showing(style: DataStyle) -> Showing
         sent_fault: None,
         got_fault: None,
     }
-}
-
-/// Tells what to type, where an echo is expected and the replies of a client are those of none.
-fn hint_client<F: Write>(
-    alloc: Global,
-    expected: Expectation,
-    transcript: &Transcript,
-    faults: &mut Watched<F>,
-)
-    ensures hints { HintsClient expected transcript.now (watched F.contents faults.old faults.new) }
-    ensures still { StaysFailed faults.old faults.new }
-{
-    let missed = missed_echo(alloc, Role::Client, expected, transcript);
-    tell_missed_echo(missed, faults);
 }
 
 /// How a script of a plan is sent.

@@ -5,16 +5,18 @@
 //! what came of it is one of four exits; and `words_are_no_text` where there are no words.
 #![tactic(auto)]
 
-mod client_site;
 mod clients_at;
 mod running;
 mod send;
+mod sending_noted;
+mod site;
 mod sweep;
 mod sweeping_clients;
 mod tap;
 mod test;
 
 pub use running::{run, words_are_no_text};
-pub use send::{SendPlan, SendStop, plan_send, send_to};
+pub use send::{SendPlan, plan_send, send_over};
+pub use site::Site;
 pub use sweep::{SweepPlan, SweepRefusal, plan_sweep, sweep_over, tell_sweep_refusal};
 pub use test::{TestPlan, plan_test, run_plan};

@@ -9,12 +9,14 @@ ghost use Rattle.wst_words.specs.Words.{wst_app};
 ghost use Rattle.wst_commands.specs.Devices.{Tells};
 ghost use Rattle.wst_commands.specs.Exits.{exit_status};
 ghost use Rattle.wst_run.specs.Run.{AnswersWords, Runs, RunsTask, TellsOf};
-ghost use Rattle.wst_run.specs.Send.{RunsSend};
-ghost use Rattle.wst_sockets.specs.Serve.{RunsServe};
+ghost use Rattle.wst_run.specs.SendNoted.{RunsSend};
+ghost use Rattle.wst_services.specs.Serve.{RunsServe};
 ghost use Rattle.wst_run.specs.Sweep.{RunsSweep};
 ghost use Rattle.wst_run.specs.Test.{CanBeTested, RunsPlanAsked, RunsTest};
 
-use crate::send::{plan_send, send_to_target};
+use crate::send::plan_send;
+use crate::sending_noted::send_planned;
+use crate::site::Site;
 use crate::sweep::{plan_sweep, sweep_target, tell_sweep_refusal};
 use crate::tap::run_tap;
 use crate::test::{TestPlan, plan_test, run_over_target};
@@ -29,7 +31,8 @@ use wst_commands::{
     run_session, run_show, tell_fault,
 };
 use wst_network::Connector;
-use wst_sockets::{Network, plan_serve, run_serve};
+use wst_services::{plan_serve, run_serve};
+use wst_sockets::Network;
 use wst_testing::{known_given, tell_known_stop, tell_refusal};
 use wst_words::{
     SendOptions, ServeOptions, SweepOptions, Task, TestOptions, WordsFault, read_words,
@@ -41,11 +44,9 @@ use wst_words::{
 /// `faults`, and then nothing is read or written. Want of memory is told there as `no memory`. That a run still waits
 /// is told beside it, by the network.
 #[tactic(auto, using(crate::proofs::RunLemmas::status_up_to_3))]
-pub fn run<N: Network, C: Connector, R: Read, W: Write, F: Write>(
-    alloc: Global,
+pub fn run<'x, N: Network, C: Connector, R: Read, W: Write, F: Write>(
+    site: Site<'x, 'x, N, C>,
     words: &[String],
-    net: &N,
-    connector: &C,
     reader: &mut Watched<R>,
     writer: &mut Watched<W>,
     faults: &mut Watched<F>,
@@ -58,18 +59,16 @@ pub fn run<N: Network, C: Connector, R: Read, W: Write, F: Write>(
         (watched W.contents writer.old writer.new)
         (watched F.contents faults.old faults.new) }
 {
-    match read_words(alloc, words) {
-        Ok(task) => run_task(alloc, task, net, connector, reader, writer, faults),
-        Err(fault) => answer_words(alloc, &fault, writer, faults),
+    match read_words(site.alloc, words) {
+        Ok(task) => run_task(site, task, reader, writer, faults),
+        Err(fault) => answer_words(site.alloc, &fault, writer, faults),
     }
 }
 
 /// Does what was asked for, and tells what is to be told.
-fn run_task<N: Network, C: Connector, R: Read, W: Write, F: Write>(
-    alloc: Global,
+fn run_task<'x, N: Network, C: Connector, R: Read, W: Write, F: Write>(
+    site: Site<'x, 'x, N, C>,
     task: Task<'_>,
-    net: &N,
-    connector: &C,
     reader: &mut Watched<R>,
     writer: &mut Watched<W>,
     faults: &mut Watched<F>,
@@ -80,6 +79,11 @@ fn run_task<N: Network, C: Connector, R: Read, W: Write, F: Write>(
         (watched W.contents writer.old writer.new)
         (watched F.contents faults.old faults.new) }
 {
+    let Site {
+        alloc,
+        net,
+        connector,
+    } = site;
     match task {
         Task::Show(options) => end_run(alloc, run_show(alloc, options, reader, writer), faults),
         Task::Pair(options) => end_run(alloc, run_moves(alloc, options, reader, writer), faults),
@@ -90,21 +94,21 @@ fn run_task<N: Network, C: Connector, R: Read, W: Write, F: Write>(
         Task::Judge(options) => end_run(alloc, run_judge(alloc, options, reader, writer), faults),
         Task::Convert => end_run(alloc, run_convert(alloc, reader, writer), faults),
         Task::Cases(options) => run_cases(alloc, options, writer, faults),
-        Task::Test(options) => run_test(alloc, &options, net, connector, reader, writer, faults),
-        Task::Send(options) => run_send(alloc, &options, net, connector, reader, writer, faults),
-        Task::Sweep(options) => run_sweep(alloc, &options, net, connector, writer, faults),
+        Task::Test(options) => run_test(site, &options, reader, writer, faults),
+        Task::Send(options) => run_send(site, &options, reader, writer, faults),
+        Task::Sweep(options) => run_sweep(site, &options, writer, faults),
         Task::Report(options) => end_run(alloc, run_report(alloc, options, reader, writer), faults),
-        Task::Serve(options) => serve_as_asked(alloc, &options, net, writer, faults),
-        Task::Tap(options) => run_tap(alloc, &options, net, writer, faults),
+        Task::Serve(options) => serve_as_asked(alloc, &options, connector, writer, faults),
+        Task::Tap(options) => run_tap(alloc, &options, connector, writer, faults),
     }
 }
 
 /// Serves what the words ask for, or tells why there is nothing to serve.
 #[inline(never)]
-fn serve_as_asked<N: Network, W: Write, F: Write>(
+fn serve_as_asked<C: Connector, W: Write, F: Write>(
     alloc: Global,
     options: &ServeOptions<'_>,
-    net: &N,
+    connector: &C,
     writer: &mut Watched<W>,
     faults: &mut Watched<F>,
 ) -> Exit
@@ -113,7 +117,7 @@ fn serve_as_asked<N: Network, W: Write, F: Write>(
         (watched F.contents faults.old faults.new) }
 {
     match plan_serve(alloc, options) {
-        Ok(plan) => run_serve(alloc, &plan, net, writer, faults),
+        Ok(plan) => run_serve(alloc, &plan, connector, writer, faults),
         Err(fault) => tell_fault(alloc, fault, faults),
     }
 }
@@ -122,10 +126,8 @@ fn serve_as_asked<N: Network, W: Write, F: Write>(
 /// run.
 #[inline(never)]
 fn run_test<N: Network, C: Connector, R: Read, W: Write, F: Write>(
-    alloc: Global,
+    site: Site<'_, '_, N, C>,
     options: &TestOptions<'_>,
-    net: &N,
-    connector: &C,
     reader: &mut Watched<R>,
     writer: &mut Watched<W>,
     faults: &mut Watched<F>,
@@ -135,21 +137,17 @@ fn run_test<N: Network, C: Connector, R: Read, W: Write, F: Write>(
     ensures { RunsTest options.now result (watched R.remaining reader.old reader.new)
         (watched W.contents writer.old writer.new) (watched F.contents faults.old faults.new) }
 {
-    match plan_test(alloc, options) {
-        Ok(plan) => run_planned(
-            alloc, options, &plan, net, connector, reader, writer, faults,
-        ),
-        Err(refusal) => tell_refusal(alloc, refusal, faults),
+    match plan_test(site.alloc, options) {
+        Ok(plan) => run_planned(site, options, &plan, reader, writer, faults),
+        Err(refusal) => tell_refusal(site.alloc, refusal, faults),
     }
 }
 
 /// Runs the cases of a plan beside the earlier run, where one is to be known, or tells why that isn't known.
 fn run_planned<N: Network, C: Connector, R: Read, W: Write, F: Write>(
-    alloc: Global,
+    site: Site<'_, '_, N, C>,
     options: &TestOptions<'_>,
     plan: &TestPlan<'_>,
-    net: &N,
-    connector: &C,
     reader: &mut Watched<R>,
     writer: &mut Watched<W>,
     faults: &mut Watched<F>,
@@ -160,22 +158,20 @@ fn run_planned<N: Network, C: Connector, R: Read, W: Write, F: Write>(
     ensures { RunsPlanAsked options.now plan.now result (watched R.remaining reader.old reader.new)
         (watched W.contents writer.old writer.new) (watched F.contents faults.old faults.new) }
 {
-    match known_given(alloc, options.known, reader) {
+    match known_given(site.alloc, options.known, reader) {
         Ok(known) => {
             let report = Report::new(options.junit, options.summary, known);
-            run_over_target(alloc, plan, &report, net, connector, writer, faults)
+            run_over_target(site, plan, &report, writer, faults)
         }
-        Err(why) => tell_known_stop(alloc, why, faults),
+        Err(why) => tell_known_stop(site.alloc, why, faults),
     }
 }
 
 /// Runs the script that comes in over the server that the words name, or tells on the fault output why it is not run.
 #[inline(never)]
-fn run_send<N: Network, C: Connector, R: Read, W: Write, F: Write>(
-    alloc: Global,
+fn run_send<'x, N: Network, C: Connector, R: Read, W: Write, F: Write>(
+    site: Site<'x, 'x, N, C>,
     options: &SendOptions<'_>,
-    net: &N,
-    connector: &C,
     reader: &mut Watched<R>,
     writer: &mut Watched<W>,
     faults: &mut Watched<F>,
@@ -185,9 +181,9 @@ fn run_send<N: Network, C: Connector, R: Read, W: Write, F: Write>(
     ensures { RunsSend options.now result (watched R.remaining reader.old reader.new)
         (watched W.contents writer.old writer.new) (watched F.contents faults.old faults.new) }
 {
-    match plan_send(alloc, options) {
-        Ok(plan) => send_to_target(alloc, &plan, net, connector, reader, writer, faults),
-        Err(refusal) => tell_refusal(alloc, refusal, faults),
+    match plan_send(site.alloc, options) {
+        Ok(plan) => send_planned(site, &plan, reader, writer, faults),
+        Err(refusal) => tell_refusal(site.alloc, refusal, faults),
     }
 }
 
@@ -195,10 +191,8 @@ fn run_send<N: Network, C: Connector, R: Read, W: Write, F: Write>(
 /// is run.
 #[inline(never)]
 fn run_sweep<N: Network, C: Connector, W: Write, F: Write>(
-    alloc: Global,
+    site: Site<'_, '_, N, C>,
     options: &SweepOptions<'_>,
-    net: &N,
-    connector: &C,
     writer: &mut Watched<W>,
     faults: &mut Watched<F>,
 ) -> Exit
@@ -206,9 +200,9 @@ fn run_sweep<N: Network, C: Connector, W: Write, F: Write>(
     ensures { RunsSweep options.now result (watched W.contents writer.old writer.new)
         (watched F.contents faults.old faults.new) }
 {
-    match plan_sweep(alloc, options) {
-        Ok(plan) => sweep_target(alloc, &plan, net, connector, writer, faults),
-        Err(refusal) => tell_sweep_refusal(alloc, refusal, faults),
+    match plan_sweep(site.alloc, options) {
+        Ok(plan) => sweep_target(site, &plan, writer, faults),
+        Err(refusal) => tell_sweep_refusal(site.alloc, refusal, faults),
     }
 }
 

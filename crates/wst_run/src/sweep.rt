@@ -7,7 +7,7 @@ ghost use Rattle.ws_sweep.specs.Order.{max_steps};
 ghost use Rattle.wst_run.specs.Sweep.{GivesSteps, IsSweepPlan, RefusesSweep, RunsSweepPlan, TellsSweepRefusal};
 ghost use Rattle.wst_run.specs.Sweep.{HasTooManySteps, SweepsOver, sweep_rules_of};
 
-use crate::client_site::ClientSite;
+use crate::site::Site;
 use crate::sweeping_clients::sweep_clients_at;
 use std::alloc::Global;
 use std::io::Write;
@@ -17,7 +17,7 @@ use wst_commands::{Exit, tell};
 use wst_network::Connector;
 use wst_sockets::Network;
 use wst_testing::{
-    CaseServer, End, Refusal, RunPlan, SweepRules, UsualTimes, max_fail_given, plan_run,
+    CaseServer, End, Refusal, RunPlan, RunRules, SweepRules, UsualTimes, max_fail_given, plan_run,
     sweep_scripts, tell_refusal, tell_sweep_end,
 };
 use wst_words::SweepOptions;
@@ -95,10 +95,8 @@ fn steps_given(steps: u64) -> Option<usize>
 
 /// Runs the scripts of a plan over the end that it names, and tells how that ended.
 pub(crate) fn sweep_target<N: Network, C: Connector, W: Write, F: Write>(
-    alloc: Global,
+    site: Site<'_, '_, N, C>,
     plan: &SweepPlan<'_>,
-    net: &N,
-    connector: &C,
     writer: &mut Watched<W>,
     faults: &mut Watched<F>,
 ) -> Exit
@@ -107,17 +105,9 @@ pub(crate) fn sweep_target<N: Network, C: Connector, W: Write, F: Write>(
     ensures { SweepsOver plan.now.run.tested plan.now result (watched W.contents writer.old writer.new)
         (watched F.contents faults.old faults.new) }
 {
-    match End::of_plan(net, connector, &plan.run) {
-        Ok(end) => sweep_over(alloc, &end, plan, writer, faults),
-        Err(address) => {
-            let site = ClientSite {
-                alloc,
-                net,
-                connector,
-                address,
-            };
-            sweep_clients_at(&site, plan, writer, faults)
-        }
+    match End::of_plan(site.net, site.connector, &plan.run) {
+        Ok(end) => sweep_over(site.alloc, &end, plan, writer, faults),
+        Err(address) => sweep_clients_at(site, address, plan, writer, faults),
     }
 }
 
@@ -142,15 +132,20 @@ pub fn sweep_over<S: CaseServer, W: Write, F: Write>(
 fn rules_of(plan: &SweepPlan<'_>) -> SweepRules
     ensures { result ≡ sweep_rules_of plan.now }
 {
-    SweepRules {
+    let run = RunRules {
         tested: plan.run.tested.role(),
         expected: plan.run.expected,
+        key: plan.run.key,
+        explains: None,
+        progress: plan.progress,
+        is_limited: plan.run.gives_limit,
+        max_fail: plan.max_fail,
+    };
+    SweepRules {
+        run,
         steps: plan.steps,
         all: plan.all,
-        progress: plan.progress,
-        key: plan.run.key,
         names: plan.run.tells_waits(),
-        max_fail: plan.max_fail,
     }
 }
 

@@ -13,8 +13,8 @@ ghost use Rattle.wst_run.specs.ClientSweeps.{SweepsClientsAt};
 ghost use Rattle.wst_run.specs.declared.clients_at.ClientJob.TheVariants.{Lines};
 ghost use Rattle.wst_clients.specs.Visits.{known_by};
 
-use crate::client_site::ClientSite;
 use crate::clients_at::{ClientJob, ClientRun, visit_at};
+use crate::site::Site;
 use crate::sweep::SweepPlan;
 use std::alloc::Global;
 use std::io::Write;
@@ -32,40 +32,44 @@ use wst_sockets::Network;
 /// tests the clients that come, whose cases are the short scripts of a plan. Why nothing can be listened at is told to
 /// `faults`.
 pub(crate) fn sweep_clients_at<N: Network, C: Connector, W: Write, F: Write>(
-    site: &ClientSite<'_, N, C>,
+    site: Site<'_, '_, N, C>,
+    address: &str,
     plan: &SweepPlan<'_>,
     writer: &mut Watched<W>,
     faults: &mut Watched<F>,
 ) -> Exit
     requires works { has_failed writer.old ≡ false }
     requires steps { plan.now.steps ≤ max_steps }
-    ensures { SweepsClientsAt site.now.address.now plan.now result (watched W.contents writer.old writer.new)
+    ensures { SweepsClientsAt address.now plan.now result (watched W.contents writer.old writer.new)
         (watched F.contents faults.old faults.new) }
 {
-    let ended = sweep_at(site, plan, writer, faults);
-    end_run(site.alloc, ended, faults)
+    let alloc = site.alloc;
+    let ended = sweep_at(site, address, plan, writer, faults);
+    end_run(alloc, ended, faults)
 }
 
 /// Listens at an address, and tests the clients that come.
 fn sweep_at<N: Network, C: Connector, W: Write, F: Write>(
-    site: &ClientSite<'_, N, C>,
+    site: Site<'_, '_, N, C>,
+    address: &str,
     plan: &SweepPlan<'_>,
     writer: &mut Watched<W>,
     faults: &mut Watched<F>,
 ) -> Result<Exit, Fault>
     requires works { has_failed writer.old ≡ false }
     requires steps { plan.now.steps ≤ max_steps }
-    ensures sweeps { SweepsAt site.now.address.now plan.now result (watched W.contents writer.old writer.new)
+    ensures sweeps { SweepsAt address.now plan.now result (watched W.contents writer.old writer.new)
         (watched F.contents faults.old faults.new) }
     ensures still { StaysFailed faults.old faults.new }
 {
     let cases = short_cases(site.alloc, plan.run.expected, plan.steps)?;
-    sweep_cases(site, plan, cases.as_slice(), writer, faults)
+    sweep_cases(site, address, plan, cases.as_slice(), writer, faults)
 }
 
 /// Listens at an address, and tests the clients that come in these cases.
 fn sweep_cases<'a, N: Network, C: Connector, W: Write, F: Write>(
-    site: &ClientSite<'_, N, C>,
+    site: Site<'_, '_, N, C>,
+    address: &str,
     plan: &'a SweepPlan<'_>,
     cases: &'a [Case],
     writer: &mut Watched<W>,
@@ -73,14 +77,14 @@ fn sweep_cases<'a, N: Network, C: Connector, W: Write, F: Write>(
 ) -> Result<Exit, Fault>
     requires works { has_failed writer.old ≡ false }
     requires can { All CanBeRun cases.now }
-    ensures sweeps { SweepsCases site.now.address.now plan.now cases.now result
+    ensures sweeps { SweepsCases address.now plan.now cases.now result
         (watched W.contents writer.old writer.new) (watched F.contents faults.old faults.new) }
     ensures still { StaysFailed faults.old faults.new }
 {
     let rules = sweep_rules(plan, cases);
     let job = sweep_job(plan);
     let visits = ClientRun { rules: &rules, job };
-    visit_at(site, &plan.run, visits, writer, faults)
+    visit_at(site, address, &plan.run, visits, writer, faults)
 }
 
 /// What is written of the clients of a plan: lines.

@@ -7,18 +7,21 @@ ghost use Rattle.ws_targets.specs.Places.{IsAddress};
 ghost use Rattle.wst_testing.specs.RunPlans.{IsUrl};
 ghost use Rattle.wst_commands.specs.Devices.{Tells};
 ghost use Rattle.wst_commands.specs.declared.exit.Exit.TheVariants.{WrongWords};
-ghost use Rattle.wst_run.specs.Tap.{IsServer, IsServerOf, RefusesEnds, RefusesServer, RunsTap, TapsAt};
+ghost use Rattle.wst_run.specs.Tap.{IsServer, IsServerOf, RefusesEnds, RefusesServer, RunsTap, TapsServer};
 ghost use Rattle.wst_run.specs.Tap.{TellsTapRefusal, tap_target_text};
 
 use std::alloc::Global;
 use std::io::Write;
-use std::net::Net;
 use ws_frame::Watched;
 use ws_targets::{Advice, Target, TargetFault, is_address, read_target, target_advice};
-use wst_commands::{Exit, Fault, end_run, tell, tell_fault};
-use wst_sockets::{ListenerPairs, listen, port_of, tap_pairs, tell_listening, told_address};
+use wst_commands::{Exit, Fault, count_given, end_run, tell, tell_fault};
+use wst_network::Connector;
+use wst_services::{TapPlan, tap_over};
 use wst_testing::is_url;
 use wst_words::TapOptions;
+
+/// At most so many connections go on at a time.
+const MAX_AT_ONCE: u32 = 1000;
 
 /// Why nothing is tapped.
 #[derive(Clone, Copy)]
@@ -33,10 +36,10 @@ enum TapRefusal {
 
 /// Taps what the words ask for, or tells why not.
 #[inline(never)]
-pub(crate) fn run_tap<N: Net, W: Write, F: Write>(
+pub(crate) fn run_tap<C: Connector, W: Write, F: Write>(
     alloc: Global,
     options: &TapOptions<'_>,
-    net: &N,
+    connector: &C,
     writer: &mut Watched<W>,
     faults: &mut Watched<F>,
 ) -> Exit
@@ -46,8 +49,8 @@ pub(crate) fn run_tap<N: Net, W: Write, F: Write>(
 {
     match server_of(alloc, options) {
         Ok(server) => {
-            let ended = tap_at(alloc, options, server.address(), net, writer);
-            end_run(alloc, ended, faults)
+            let address = server.address();
+            tap_server(alloc, options, address, connector, writer, faults)
         }
         Err(refusal) => tell_tap_refusal(alloc, refusal, faults),
     }
@@ -123,27 +126,30 @@ fn tap_target_text(advice: Advice) -> &'static [u8]
     }
 }
 
-/// Listens at the address, which is told in a line, with the port that the system chose in the place of a port 0, and
-/// taps so many connections to the server at the other one, one after the other, and tells of them.
-fn tap_at<N: Net, W: Write>(
+/// Taps the connections of those who come to the server at this address, so many at a time, or tells that it can't be
+/// so many.
+fn tap_server<C: Connector, W: Write, F: Write>(
     alloc: Global,
     options: &TapOptions<'_>,
     server: &str,
-    net: &N,
+    connector: &C,
     writer: &mut Watched<W>,
-) -> Result<Exit, Fault>
+    faults: &mut Watched<F>,
+) -> Exit
     requires { has_failed writer.old ≡ false }
-    ensures { TapsAt options.now result (watched W.contents writer.old writer.new) }
+    ensures { TapsServer options.now server.now result (watched W.contents writer.old writer.new)
+        (watched F.contents faults.old faults.new) }
 {
-    let listener = match listen(net, options.listen) {
-        Ok(listener) => listener,
-        Err(why) => return Err(Fault::NotListening(why)),
+    let Some(at_once) = count_given(options.at_once, MAX_AT_ONCE) else {
+        return tell_fault(alloc, Fault::BadAtOnce, faults);
     };
-    let address = told_address(alloc, port_of(&listener), options.listen)?;
-    let told = tell_listening(alloc, address.as_slice(), writer)?;
-    if writer.failed() {
-        return Ok(told);
-    }
-    let pairs = ListenerPairs::of(net, &listener, server);
-    tap_pairs(alloc, &pairs, options.count, options.style, writer)
+    let plan = TapPlan {
+        listen: options.listen,
+        server,
+        at_once,
+        count: options.count,
+        style: options.style,
+    };
+    let ended = tap_over(alloc, &plan, connector, writer, faults);
+    end_run(alloc, ended, faults)
 }

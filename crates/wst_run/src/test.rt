@@ -8,8 +8,8 @@ ghost use Rattle.wst_commands.specs.GivenCases.{names_of};
 ghost use Rattle.wst_run.specs.Test.{CanBeTested, CarriesOut, IsPlan, RefusesTest, ReportsPlan, RunsPlan, RunsPlanOver};
 ghost use Rattle.wst_run.specs.Test.{explained_with, is_one_case, rules_of};
 
-use crate::client_site::ClientSite;
 use crate::clients_at::test_clients_at;
+use crate::site::Site;
 use std::alloc::Global;
 use std::io::Write;
 use ws_frame::{DataStyle, Watched};
@@ -19,7 +19,7 @@ use wst_commands::{Exit, Fault, cases_of, deliver, end_run, is_glob};
 use wst_network::Connector;
 use wst_sockets::Network;
 use wst_testing::{
-    CaseServer, End, Refusal, RunPlan, RunRules, UsualTimes, capture_case, close_report,
+    CaseRun, CaseServer, End, Refusal, RunPlan, RunRules, UsualTimes, capture_case, close_report,
     max_fail_given, plan_run, test_cases,
 };
 use wst_words::TestOptions;
@@ -44,11 +44,9 @@ pub struct TestPlan<'a> {
 
 /// Runs the cases of a plan over the end that it names, and tells how that ended.
 pub(crate) fn run_over_target<N: Network, C: Connector, W: Write, F: Write>(
-    alloc: Global,
+    site: Site<'_, '_, N, C>,
     plan: &TestPlan<'_>,
     report: &Report,
-    net: &N,
-    connector: &C,
     writer: &mut Watched<W>,
     faults: &mut Watched<F>,
 ) -> Exit
@@ -57,17 +55,9 @@ pub(crate) fn run_over_target<N: Network, C: Connector, W: Write, F: Write>(
     ensures { RunsPlanOver plan.now.run.tested plan.now report.now result (watched W.contents writer.old writer.new)
         (watched F.contents faults.old faults.new) }
 {
-    match End::of_plan(net, connector, &plan.run) {
-        Ok(end) => run_plan(alloc, &end, plan, report, writer, faults),
-        Err(address) => {
-            let site = ClientSite {
-                alloc,
-                net,
-                connector,
-                address,
-            };
-            test_clients_at(&site, plan, report, writer, faults)
-        }
+    match End::of_plan(site.net, site.connector, &plan.run) {
+        Ok(end) => run_plan(site.alloc, &end, plan, report, writer, faults),
+        Err(address) => test_clients_at(site, address, plan, report, writer, faults),
     }
 }
 
@@ -135,16 +125,12 @@ fn report_cases<S: CaseServer, W: Write, F: Write>(
         return Ok(begun);
     }
     let rules = rules_of(plan);
-    let ended = test_cases(
-        alloc,
-        server,
+    let run = CaseRun {
         rules,
-        report,
-        plan.cases.as_slice(),
-        &plan.run.tested,
-        writer,
-        faults,
-    );
+        cases: plan.cases.as_slice(),
+        tested: &plan.run.tested,
+    };
+    let ended = test_cases(alloc, server, run, report, writer, faults);
     close_report(report, &ended, writer);
     ended
 }

@@ -1,5 +1,5 @@
 -- The end that a word names, and seconds that are no limit of time.
-use Rattle.std.proofs.Common.{◌≡◌, ℕ, List, Option, Some, None, refl}
+use Rattle.std.proofs.Common.{◌≡◌, ℕ, List, Option, Some, None, inl, inr, refl, subst, sym}
 use Rattle.std.specs.Borrow.{Bor}
 use Rattle.ws_wire.specs.declared.role.Role.TheVariants as role
 use Rattle.ws_targets.specs.Advice.{Advises}
@@ -11,7 +11,7 @@ use Rattle.wst_commands.specs.declared.time_limit.TimeLimit.TheVariants.{Seconds
 use Rattle.wst_commands.specs.declared.given_cases.NoCases.TheVariants.{NoMemory, NoSuchCase}
 use Rattle.wst_testing.specs.RunPlans.{AdvisesClients, CanNotRun, HasAllButEnd, HasRequestWords, IsClientsAddress}
 use Rattle.wst_testing.specs.RunPlans.{IsNoMemoryWord}
-use Rattle.wst_testing.specs.RunPlans.{IsDeadlineRefusal, IsTimeoutRefusal, IsWaitRefusal, NamesEnd, RefusesTarget}
+use Rattle.wst_testing.specs.RunPlans.{IsLimitRefusal, NamesEnd, RefusesTarget}
 use Rattle.wst_testing.specs.RunPlans.{memory_word}
 use Rattle.wst_words.specs.declared.run_options.RunOptions.{RunOptions}
 use Rattle.wst_testing.specs.declared.case_server.MemoryPeer.{MemoryPeer}
@@ -49,65 +49,29 @@ address_refused word given none lacks is = (no_clients word none lacks, is)
 -- ---- seconds
 
 -- what is told of seconds that are no limit of time for a byte
-pub timeout_refused : (options : RunOptions) (why : Refusal) → HasRequestWords options → ¬ (HasRunTimeout options.timeout)
-    → IsTimeoutRefusal options.timeout why → CanNotRun options why
-timeout_refused options refusal.BadTimeout head lacks is = (head, lacks, is)
-timeout_refused options refusal.TimeoutWithUnit head lacks is = (head, lacks, is)
-timeout_refused options refusal.WaitForServer head lacks is = absurd is
-timeout_refused options refusal.BadProtocols head lacks is = absurd is
-timeout_refused options refusal.BadHeader head lacks is = absurd is
-timeout_refused options refusal.BadWait head lacks is = absurd is
-timeout_refused options refusal.WaitWithUnit head lacks is = absurd is
-timeout_refused options refusal.BadDeadline head lacks is = absurd is
-timeout_refused options refusal.DeadlineWithUnit head lacks is = absurd is
-timeout_refused options refusal.BadKey head lacks is = absurd is
-timeout_refused options (refusal.BadAddress given) head lacks is = absurd is
-timeout_refused options refusal.BadConnect head lacks is = absurd is
-timeout_refused options refusal.CaptureInReport head lacks is = absurd is
-timeout_refused options refusal.NotOneCase head lacks is = absurd is
-timeout_refused options refusal.BadMaxFail head lacks is = absurd is
-timeout_refused options (refusal.NoCases why) head lacks is = absurd is
+pub timeout_refused : (options : RunOptions) (why : Refusal) → HasRequestWords options
+    → ¬ (HasRunTimeout options.timeout)
+    → IsLimitRefusal options.timeout refusal.TimeoutWithUnit refusal.BadTimeout why → CanNotRun options why
+timeout_refused options why head lacks (inl (unit, is)) = subst (λ r. CanNotRun options r) (sym is) (head, lacks, unit)
+timeout_refused options why head lacks (inr (none, is)) = subst (λ r. CanNotRun options r) (sym is) (head, lacks, none)
 
 -- and for a client to come
 pub wait_refused : (options : RunOptions) (why : Refusal) → HasRequestWords options → HasRunTimeout options.timeout
-    → ¬ (HasWait options.wait) → IsWaitRefusal options.wait why → CanNotRun options why
-wait_refused options refusal.BadWait head limit lacks is = (head, limit, lacks, is)
-wait_refused options refusal.WaitWithUnit head limit lacks is = (head, limit, lacks, is)
-wait_refused options refusal.WaitForServer head limit lacks is = absurd is
-wait_refused options refusal.BadProtocols head limit lacks is = absurd is
-wait_refused options refusal.BadHeader head limit lacks is = absurd is
-wait_refused options refusal.BadTimeout head limit lacks is = absurd is
-wait_refused options refusal.TimeoutWithUnit head limit lacks is = absurd is
-wait_refused options refusal.BadDeadline head limit lacks is = absurd is
-wait_refused options refusal.DeadlineWithUnit head limit lacks is = absurd is
-wait_refused options refusal.BadKey head limit lacks is = absurd is
-wait_refused options (refusal.BadAddress given) head limit lacks is = absurd is
-wait_refused options refusal.BadConnect head limit lacks is = absurd is
-wait_refused options refusal.CaptureInReport head limit lacks is = absurd is
-wait_refused options refusal.NotOneCase head limit lacks is = absurd is
-wait_refused options refusal.BadMaxFail head limit lacks is = absurd is
-wait_refused options (refusal.NoCases why) head limit lacks is = absurd is
+    → ¬ (HasWait options.wait) → IsLimitRefusal options.wait refusal.WaitWithUnit refusal.BadWait why
+    → CanNotRun options why
+wait_refused options why head limit lacks (inl (unit, is)) =
+    subst (λ r. CanNotRun options r) (sym is) (head, limit, lacks, unit)
+wait_refused options why head limit lacks (inr (none, is)) =
+    subst (λ r. CanNotRun options r) (sym is) (head, limit, lacks, none)
 
 -- and for a connection
 pub deadline_refused : (options : RunOptions) (why : Refusal) → HasRequestWords options → HasRunTimeout options.timeout
-    → HasWait options.wait → ¬ (HasDeadline options.deadline) → IsDeadlineRefusal options.deadline why
-    → CanNotRun options why
-deadline_refused options refusal.BadDeadline head limit wait lacks is = (head, limit, wait, lacks, is)
-deadline_refused options refusal.DeadlineWithUnit head limit wait lacks is = (head, limit, wait, lacks, is)
-deadline_refused options refusal.WaitForServer head limit wait lacks is = absurd is
-deadline_refused options refusal.BadProtocols head limit wait lacks is = absurd is
-deadline_refused options refusal.BadHeader head limit wait lacks is = absurd is
-deadline_refused options refusal.BadTimeout head limit wait lacks is = absurd is
-deadline_refused options refusal.TimeoutWithUnit head limit wait lacks is = absurd is
-deadline_refused options refusal.BadWait head limit wait lacks is = absurd is
-deadline_refused options refusal.WaitWithUnit head limit wait lacks is = absurd is
-deadline_refused options refusal.BadKey head limit wait lacks is = absurd is
-deadline_refused options (refusal.BadAddress given) head limit wait lacks is = absurd is
-deadline_refused options refusal.BadConnect head limit wait lacks is = absurd is
-deadline_refused options refusal.CaptureInReport head limit wait lacks is = absurd is
-deadline_refused options refusal.NotOneCase head limit wait lacks is = absurd is
-deadline_refused options refusal.BadMaxFail head limit wait lacks is = absurd is
-deadline_refused options (refusal.NoCases why) head limit wait lacks is = absurd is
+    → HasWait options.wait → ¬ (HasDeadline options.deadline)
+    → IsLimitRefusal options.deadline refusal.DeadlineWithUnit refusal.BadDeadline why → CanNotRun options why
+deadline_refused options why head limit wait lacks (inl (unit, is)) =
+    subst (λ r. CanNotRun options r) (sym is) (head, limit, wait, lacks, unit)
+deadline_refused options why head limit wait lacks (inr (none, is)) =
+    subst (λ r. CanNotRun options r) (sym is) (head, limit, wait, lacks, none)
 
 -- a word that gives one has one
 pub has_timeout : (usual : TimeLimit) (word : Option (Bor (List ℕ))) (limit : TimeLimit)
@@ -146,5 +110,6 @@ end_refused options refusal.BadDeadline all is = absurd is
 end_refused options refusal.DeadlineWithUnit all is = absurd is
 end_refused options refusal.BadKey all is = absurd is
 end_refused options refusal.CaptureInReport all is = absurd is
+end_refused options refusal.TimeInMemory all is = absurd is
 end_refused options refusal.NotOneCase all is = absurd is
 end_refused options refusal.BadMaxFail all is = absurd is

@@ -16,7 +16,7 @@ use Rattle.ws_handshake.specs.declared.probe_end.Probe.TheVariants as probe
 use Rattle.ws_lines.specs.declared.transcript_lines.Showing.{Showing}
 use Rattle.ws_shown.specs.MarkedLines.{AreMarkedLines}
 use Rattle.ws_loops.specs.Deeds.{Deed, Happened, all_done, all_shown, all_told, shown_by, told_by}
-use Rattle.ws_loops.specs.Deeds.Deed.{Did, HadNone, Passed, Showed, TookNone, Woken}
+use Rattle.ws_loops.specs.Deeds.Deed.{Did, Emptied, HadNone, Passed, Showed, TookNone, Woken}
 use Rattle.ws_loops.specs.Sinks.{HasTakenLines, lines_at, said_at}
 use Rattle.ws_loops.proofs.SinkLemmas.{lines_own}
 use Rattle.ws_loops.specs.Slots.{AreSteps, IsNextDeed}
@@ -65,6 +65,7 @@ deed_shown wants pace now (Did WriteFailed) next = refl
 deed_shown wants pace now (Did DirectionEnded) next = refl
 deed_shown wants pace now (Did (Reported lines)) next = absurd next
 deed_shown wants pace now (Did (DeadlinePassed waited)) next = refl
+deed_shown wants pace now (Emptied bytes) next = refl
 deed_shown wants pace now HadNone next = refl
 deed_shown wants pace now TookNone next = refl
 deed_shown wants pace now (Showed lines) next = refl

@@ -26,7 +26,7 @@ use Rattle.wst_testing.specs.Sweeps.{AreJudgedScripts, AreShortRuns, AreSwept, C
 use Rattle.wst_testing.specs.Sweeps.{EndsSweep, GaveAllScripts, is_enough_in}
 use Rattle.wst_testing.specs.Sweeps.{GaveScripts, HasSwept, HasToldScripts, IsCounted, IsNextSwept, IsShortRun, IsSwept}
 use Rattle.wst_testing.specs.Sweeps.{MakesCasesOf, ShortRunValue, ShortRunsValue, StopsAtScript, StopsBehind, StopsSweep}
-use Rattle.wst_testing.specs.Sweeps.{SweepsAll, SweepsScripts, SweptScript, case_rules, missed_by, outcomes_of}
+use Rattle.wst_testing.specs.Sweeps.{SweepsAll, SweepsScripts, SweptScript, missed_by, outcomes_of}
 use Rattle.wst_testing.specs.Sweeps.{script_line, sweep_lines, sweep_total, swept, total_of_scripts}
 use Rattle.wst_sockets.specs.declared.meeting.ConnectFault.{ConnectFault}
 use Rattle.wst_sockets.specs.declared.meeting.Meeting.{Meeting}
@@ -85,10 +85,10 @@ short_more rules number (first ∷ runs) run (one, rest) is = (
 -- the case is made for the role and the key of the rules
 short_so : (rules : SweepRules) (cases : CaseRules) (places : List ℕ) (case : Case) → MakesCasesOf rules cases
     → IsShortCase cases.tested cases.expected cases.key places case
-    → IsShortCase rules.tested rules.expected (key_for (other_role rules.tested) rules.key) places case
+    → IsShortCase rules.run.tested rules.run.expected (key_for (other_role rules.run.tested) rules.run.key) places case
 short_so rules cases places case of_rules short =
-    subst (λ (k : Option (List ℕ)). IsShortCase rules.tested rules.expected k places case) of_rules.2
-    (subst (λ (x : Expectation). IsShortCase rules.tested x cases.key places case) of_rules.1
+    subst (λ (k : Option (List ℕ)). IsShortCase rules.run.tested rules.run.expected k places case) of_rules.2
+    (subst (λ (x : Expectation). IsShortCase rules.run.tested x cases.key places case) of_rules.1
     (subst (λ (r : Role). IsShortCase r cases.expected cases.key places case) of_rules.0 short))
 
 none_before : (n : ℕ) → 0 + n ≡ n
@@ -130,7 +130,7 @@ given_all start old runs gave none =
 
 pub judged_one_more : (rules : SweepRules) (came : List (ShortRunValue × Meeting)) (scripts : List SweptScript)
     (run : ShortRunValue) (meeting : Meeting) (outcome : Outcome) → AreJudgedScripts rules came scripts
-    → IsOutcomeOf (case_rules rules) meeting outcome → missed_by outcome ≡ None
+    → IsOutcomeOf rules.run meeting outcome → missed_by outcome ≡ None
     → AreJudgedScripts rules (came ++ (run, meeting) ∷ []) (scripts ++ swept run.places run.case outcome ∷ [])
 judged_one_more rules [] [] run meeting outcome before is there = ((outcome, refl, is, there), tt)
 judged_one_more rules [] (script ∷ scripts) run meeting outcome before is there = absurd before
@@ -155,7 +155,7 @@ run_case run = run.case
 -- what came of the case of a script is told of it
 swept_so : (Meets : Case → Meeting → Type 0) (rules : SweepRules) (number : ℕ) (run : ShortRunValue)
     (meeting : Meeting) (outcome : Outcome) → IsShortRun rules number run → Meets run.case meeting
-    → IsOutcomeOf (case_rules rules) meeting outcome → IsSwept Meets rules (swept run.places run.case outcome)
+    → IsOutcomeOf rules.run meeting outcome → IsSwept Meets rules (swept run.places run.case outcome)
 swept_so Meets rules number run meeting outcome (are, is, short) met told =
     (short, record { meeting = meeting; met = met; told = told })
 
@@ -211,7 +211,7 @@ told_nothing rules tally held failed empty works = record {
   scripts = [];
   judged = tt;
   many = refl;
-  goes_on = none_enough rules.max_fail;
+  goes_on = none_enough rules.run.max_fail;
   counted = empty;
   written = Appends-nil held;
   works = works;
@@ -225,16 +225,16 @@ longer count next xs x many is = is ∙ ap (λ (n : ℕ). n + 1) many ∙ sym (l
 module _ (rules : SweepRules) (came : List (ShortRunValue × Meeting)) (run : ShortRunValue) (meeting : Meeting)
     (outcome : Outcome) (count : ℕ) (tally : Tally) (old mid new : Option (List ℕ)) (f g : Bool)
     (so : HasToldScripts rules came count tally (record { failed = f; old = old; new = mid }))
-    (is : IsOutcomeOf (case_rules rules) meeting outcome) where
+    (is : IsOutcomeOf rules.run meeting outcome) where
   counted_then : (next : Tally) → next ≡ tally_with tally outcome
       → next ≡ tally_of (outcomes_of (so.scripts ++ swept run.places run.case outcome ∷ []))
   counted_then next counts = counts ∙ (ap (λ (t : Tally). tally_with t outcome) so.counted
       ∙ counted_with so.scripts (swept run.places run.case outcome))
 
-  enough_then : (next : Tally) (b : Bool) → next ≡ tally_with tally outcome → is_enough rules.max_fail next.fail ≡ b
+  enough_then : (next : Tally) (b : Bool) → next ≡ tally_with tally outcome → is_enough rules.run.max_fail next.fail ≡ b
       → is_enough_in rules (so.scripts ++ swept run.places run.case outcome ∷ []) ≡ b
   enough_then next b counts enough =
-      subst (λ (t : Tally). is_enough rules.max_fail t.fail ≡ b) (counted_then next counts) enough
+      subst (λ (t : Tally). is_enough rules.run.max_fail t.fail ≡ b) (counted_then next counts) enough
 
   written_then : Appends mid new (script_line rules (swept run.places run.case outcome))
       → Appends old new (sweep_lines rules (so.scripts ++ swept run.places run.case outcome ∷ []))
@@ -245,7 +245,7 @@ module _ (rules : SweepRules) (came : List (ShortRunValue × Meeting)) (run : Sh
 
   -- the line of the next script was written
   pub told_one_more : (next : Tally) (more : ℕ) → next ≡ tally_with tally outcome → more ≡ count + 1
-      → is_enough rules.max_fail next.fail ≡ false → missed_by outcome ≡ None
+      → is_enough rules.run.max_fail next.fail ≡ false → missed_by outcome ≡ None
       → Appends mid new (script_line rules (swept run.places run.case outcome)) → g ≡ false
       → HasToldScripts rules (came ++ (run, meeting) ∷ []) more next (record { failed = g; old = old; new = new })
   told_one_more next more counts one goes there line works = record {
@@ -260,7 +260,7 @@ module _ (rules : SweepRules) (came : List (ShortRunValue × Meeting)) (run : Sh
 
   -- the same, and there are enough Fails
   pub enough_told : (next : Tally) (more : ℕ) → next ≡ tally_with tally outcome → more ≡ count + 1
-      → is_enough rules.max_fail next.fail ≡ true → missed_by outcome ≡ None
+      → is_enough rules.run.max_fail next.fail ≡ true → missed_by outcome ≡ None
       → Appends mid new (script_line rules (swept run.places run.case outcome)) → g ≡ false
       → StopsAtScript rules (came ++ (run, meeting) ∷ []) more next stop.Enough
       (record { failed = g; old = old; new = new })

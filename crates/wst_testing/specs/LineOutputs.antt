@@ -1,4 +1,4 @@
--- The output as the sink of a loop's lines.
+-- The output as the sink of the lines of one place of a loop.
 use Rattle.std.specs.Prelude.{◌≡◌, ℕ, ⊤, false, List, [], ◌∷◌, Option}
 use Rattle.std.specs.Borrow.{GName}
 use Rattle.std.specs.List.{concat}
@@ -7,7 +7,6 @@ use Rattle.ws_frame.specs.Watching.{has_failed}
 use Rattle.ws_frame.specs.declared.watching.Watched.{Watched}
 use Rattle.ws_lines.specs.declared.transcript_lines.Showing.{Showing}
 use Rattle.ws_loops.specs.Sinks.{lines_at, said_at}
-use Rattle.ws_networks.specs.Connecting.{only_place}
 use Rattle.ws_networks.specs.declared.meeting.Met.{Met}
 use Rattle.ws_networks.specs.declared.meeting.Met.TheVariants.{Ended, NotMade}
 use Rattle.ws_shown.specs.declared.shown_probe.ShownEnd.{ShownEnd}
@@ -23,12 +22,14 @@ abbrev pub HasWrittenOn : {W : Type 0} → (W → Option (List ℕ)) → Watched
 HasWrittenOn contents old new lines =
     HasWritten lines (watched contents old new) × ((watched contents old new).failed ≡ false)
 
--- just these lines were taken: all are those of the only machine, and they were written to the same output, one after
--- the other
-pub record HasWrittenTaken (taken : List (ℕ × List ℕ)) (old_name new_name : GName) (output : Device) : Type 0 where
-  pub only : taken ≡ said_at only_place (lines_at only_place taken)
+-- just these lines were taken: all are those of this place, and they were written to the same output, one after the
+-- other
+pub record HasWrittenTaken (at now : ℕ) (taken : List (ℕ × List ℕ)) (old_name new_name : GName) (output : Device)
+    : Type 0 where
+  pub same : now ≡ at
+  pub only : taken ≡ said_at at (lines_at at taken)
   pub name : new_name ≡ old_name
-  pub written : HasWritten (concat (lines_at only_place taken)) output
+  pub written : HasWritten (concat (lines_at at taken)) output
   pub works : output.failed ≡ false
 
 -- the last lines of a machine that was run, which were not taken before it was done

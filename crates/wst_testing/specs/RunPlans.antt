@@ -1,5 +1,5 @@
 -- What the options that commands share ask for: over which end scripts are run, and how.
-use Rattle.std.specs.Prelude.{◌≡◌, ◌≢◌, ⊤, ℕ, Bool, false, not, List, Option, None, Some, codes, map}
+use Rattle.std.specs.Prelude.{◌≡◌, ◌≢◌, ◌⊎◌, ⊤, ℕ, Bool, true, false, not, List, Option, None, Some, codes, map}
 use Rattle.std.specs.Prelude.{IsTrue}
 use Rattle.std.specs.Borrow.{Bor}
 use Rattle.std.specs.Str.Iter.{HasSubslice}
@@ -42,6 +42,11 @@ abbrev pub tested_role : TestedEnd → Role
 tested_role (Memory end) = end.role
 tested_role (Server target) = role.Server
 tested_role (Clients address) = role.Client
+
+-- whether an end stands in memory
+abbrev pub is_in_memory : TestedEnd → Bool
+is_in_memory (Memory end) = true
+is_in_memory _ = false
 
 -- the word for one in memory
 abbrev pub memory_word : MemoryPeer → List ℕ
@@ -198,23 +203,9 @@ HasTimes options = HasRequestWords options × HasRunTimeout options.timeout × H
 abbrev pub HasAllButEnd : RunOptions → Type 0
 HasAllButEnd options = HasTimes options × HasKey options
 
--- what is wrong with a word that is no limit of time for a byte: it has a unit, or not
-abbrev pub IsTimeoutRefusal : Option (Bor (List ℕ)) → Refusal → Type 0
-IsTimeoutRefusal word refusal.TimeoutWithUnit = HasUnit word
-IsTimeoutRefusal word refusal.BadTimeout = ¬ (HasUnit word)
-IsTimeoutRefusal word _ = ⊥
-
--- and with one that is none for a client to come
-abbrev pub IsWaitRefusal : Option (Bor (List ℕ)) → Refusal → Type 0
-IsWaitRefusal word refusal.WaitWithUnit = HasUnit word
-IsWaitRefusal word refusal.BadWait = ¬ (HasUnit word)
-IsWaitRefusal word _ = ⊥
-
--- and with one that is none for a connection
-abbrev pub IsDeadlineRefusal : Option (Bor (List ℕ)) → Refusal → Type 0
-IsDeadlineRefusal word refusal.DeadlineWithUnit = HasUnit word
-IsDeadlineRefusal word refusal.BadDeadline = ¬ (HasUnit word)
-IsDeadlineRefusal word _ = ⊥
+-- what is told of a word that is no limit of time: the one where it is digits with a unit, else the other
+abbrev pub IsLimitRefusal : Option (Bor (List ℕ)) → Refusal → Refusal → Refusal → Type 0
+IsLimitRefusal word with_unit bad why = (HasUnit word × (why ≡ with_unit)) ⊎ (¬ (HasUnit word) × (why ≡ bad))
 
 -- The first of these that applies: a client is to be waited for, and a server is tested; the names that are given
 -- can't be offered; the headers can't be added; the seconds are no limit of time for the tested end, or for a client
@@ -242,6 +233,7 @@ CanNotRun options (refusal.BadAddress given) =
 CanNotRun options refusal.BadConnect =
     HasAllButEnd options × NamesEnd options.role options.target.now × ¬ (CanConnect options.connect)
 CanNotRun options refusal.CaptureInReport = ⊥
+CanNotRun options refusal.TimeInMemory = ⊥
 CanNotRun options refusal.NotOneCase = ⊥
 CanNotRun options refusal.BadMaxFail = ⊥
 CanNotRun options (refusal.NoCases (NoSuchCase id)) = ⊥
@@ -291,6 +283,8 @@ TellsRefusal refusal.BadConnect exit faults =
     (exit ≡ WrongWords) × Tells (codes "bad address\n  --connect takes HOST:PORT\n") faults
 TellsRefusal refusal.CaptureInReport exit faults =
     (exit ≡ WrongWords) × Tells (codes "--capture does not go with --known or --junit\n") faults
+TellsRefusal refusal.TimeInMemory exit faults =
+    (exit ≡ WrongWords) × Tells (codes "--time does not go with own or tung\n") faults
 TellsRefusal refusal.NotOneCase exit faults = (exit ≡ WrongWords) × Tells (codes "--capture takes one case\n") faults
 TellsRefusal refusal.BadMaxFail exit faults =
     (exit ≡ WrongWords) × Tells (codes "bad max-fail\n  a whole number, 1 to 1000: --max-fail 10\n") faults

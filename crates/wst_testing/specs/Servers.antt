@@ -1,5 +1,5 @@
 -- Ends that cases are run over: what is known of a meeting with one in memory, and with a server at an address.
-use Rattle.std.specs.Prelude.{◌≡◌, ◌⊎◌, ℕ, ◌≤◌, ◌*◌, List, [], ◌++◌, Option, Some, None, Result, Ok, Err}
+use Rattle.std.specs.Prelude.{◌≡◌, ◌⊎◌, ℕ, ◌≤◌, List, [], ◌++◌, Option, Some, None, Result, Ok, Err}
 use Rattle.ws_wire.specs.declared.role.Role.{Role}
 use Rattle.ws_wire.specs.declared.role.Role.TheVariants.{Server}
 use Rattle.ws_session.specs.Replies.{key_for}
@@ -32,9 +32,8 @@ use Rattle.ws_peer.specs.Talks.{Entry}
 use Rattle.ws_scripts.specs.Scripts.{AreTurns}
 use Rattle.ws_suite.specs.Verdicts.{IsVerdictOf}
 use Rattle.ws_tester.specs.RunStates.{PlanValue}
-use Rattle.wst_commands.specs.TimeLimits.{is_limited}
+use Rattle.wst_commands.specs.TimeLimits.{is_limited, milliseconds_of}
 use Rattle.wst_commands.specs.declared.time_limit.TimeLimit.{TimeLimit}
-use Rattle.wst_commands.specs.declared.time_limit.TimeLimit.TheVariants.{Seconds, Unlimited}
 use Rattle.ws_suite.specs.declared.verdict.Verdict.TheVariants.{Pass}
 use Rattle.ws_scripts.specs.declared.expectation.Expectation.{Expectation}
 use Rattle.ws_scripts.specs.declared.script.Case.{Case}
@@ -94,11 +93,6 @@ pub record AddressValue : Type 0 where
 -- how a case is run over it
 abbrev pub plan_at : AddressValue → PlanValue
 plan_at server = record { tested = Server; expected = server.expected; timeouts = is_limited server.timeout }
-
--- a limit of time in milliseconds
-abbrev pub milliseconds_of : TimeLimit → Option ℕ
-milliseconds_of Unlimited = None
-milliseconds_of (Seconds seconds) = Some (seconds * 1000)
 
 -- for so long it may be silent, and so long a connection to it lasts
 abbrev pub limits_within : TimeLimit → TimeLimit → Limits

@@ -29,7 +29,6 @@ use Rattle.wst_testing.specs.declared.run_plans.TestedEnd.{TestedEnd}
 use Rattle.wst_testing.specs.declared.runner.RunStop.{RunStop}
 use Rattle.wst_testing.specs.declared.runner.RunStop.TheVariants as stop
 use Rattle.wst_testing.specs.declared.sweeping.SweepRules.{SweepRules}
-use Rattle.wst_testing.specs.declared.testing.RunRules.{RunRules}
 
 -- ---- one script
 
@@ -53,7 +52,7 @@ is_told all NotRun = true
 
 -- all steps of its case, also what stands behind its own, as they are told
 abbrev pub whole_text : SweepRules → List ℕ → Case → List ℕ
-whole_text rules places case = steps_text rules.tested rules.expected places case.steps
+whole_text rules places case = steps_text rules.run.tested rules.run.expected places case.steps
 
 -- its line: what is told of the tested end, and these steps
 abbrev pub told_line : SweepRules → SweptScript → List ℕ
@@ -75,24 +74,12 @@ missed_by (HeadRefused fault) = None
 missed_by (NoConnection why) = Some why
 missed_by NotRun = None
 
--- how its case is run: why a verdict is told isn't asked for
-abbrev pub case_rules : SweepRules → RunRules
-case_rules rules =
-    record {
-      tested = rules.tested;
-      expected = rules.expected;
-      key = rules.key;
-      explains = None;
-      progress = false;
-      is_limited = false;
-      max_fail = None;
-    }
-
 -- this is told of one of the ends that meet cases so, in the script's case
 abbrev pub IsSwept : (Case → Meeting → Type 0) → SweepRules → SweptScript → Type 0
 IsSwept Meets rules script =
-    IsShortCase rules.tested rules.expected (key_for (other_role rules.tested) rules.key) script.places script.case
-    × IsTested Meets (case_rules rules) script.case script.outcome
+    IsShortCase rules.run.tested rules.run.expected (key_for (other_role rules.run.tested) rules.run.key) script.places
+    script.case
+    × IsTested Meets rules.run script.case script.outcome
 
 -- ---- scripts
 
@@ -121,7 +108,7 @@ total_of_scripts scripts = sweep_total (length scripts) (tally_of (outcomes_of s
 
 -- there are enough Fails among these to end the run
 abbrev pub is_enough_in : SweepRules → List SweptScript → Bool
-is_enough_in rules scripts = is_enough rules.max_fail (tally_of (outcomes_of scripts)).fail
+is_enough_in rules scripts = is_enough rules.run.max_fail (tally_of (outcomes_of scripts)).fail
 
 -- all scripts of at most so many steps, never with enough Fails; or with the last of these, and not before, there are
 -- enough
@@ -191,8 +178,8 @@ TellsSweepEnd end (Err stop.NoMemory) exit faults = LacksMemory exit faults
 -- the cases are made for the tested ends of these rules, what is expected of them, and the key of their tester
 abbrev pub MakesCasesOf : SweepRules → CaseRules → Type 0
 MakesCasesOf rules cases =
-    (cases.tested ≡ rules.tested) × (cases.expected ≡ rules.expected)
-    × (cases.key ≡ key_for (other_role rules.tested) rules.key)
+    (cases.tested ≡ rules.run.tested) × (cases.expected ≡ rules.run.expected)
+    × (cases.key ≡ key_for (other_role rules.run.tested) rules.run.key)
 
 -- ---- the scripts that are given
 
@@ -210,7 +197,8 @@ pub record ShortRunsValue : Type 0 where
 -- it is the script of this number, in its case
 abbrev pub IsShortRun : SweepRules → ℕ → ShortRunValue → Type 0
 IsShortRun rules number run = ArePlaces run.places × (script_number run.places ≡ number)
-    × IsShortCase rules.tested rules.expected (key_for (other_role rules.tested) rules.key) run.places run.case
+    × IsShortCase rules.run.tested rules.run.expected (key_for (other_role rules.run.tested) rules.run.key) run.places
+    run.case
 
 -- these are the scripts one after the other in their order, from the one of this number on
 abbrev pub AreShortRuns : SweepRules → ℕ → List ShortRunValue → Type 0
@@ -247,7 +235,7 @@ swept places case outcome = record { places = places; case = case; outcome = out
 abbrev pub AreJudgedScripts : SweepRules → List (ShortRunValue × Meeting) → List SweptScript → Type 0
 AreJudgedScripts rules [] [] = ⊤
 AreJudgedScripts rules (run ∷ came) (script ∷ scripts) = ((outcome : Outcome)
-    × (script ≡ swept run.0.places run.0.case outcome) × IsOutcomeOf (case_rules rules) run.1 outcome
+    × (script ≡ swept run.0.places run.0.case outcome) × IsOutcomeOf rules.run run.1 outcome
     × (missed_by outcome ≡ None)) × AreJudgedScripts rules came scripts
 AreJudgedScripts rules _ _ = ⊥
 
@@ -290,7 +278,7 @@ pub record StopsAtScript (rules : SweepRules) (came : List (ShortRunValue × Mee
   pub judged : AreJudgedScripts rules before scripts
   pub goes_on : is_enough_in rules scripts ≡ false
   pub outcome : Outcome
-  pub is : IsOutcomeOf (case_rules rules) meeting outcome
+  pub is : IsOutcomeOf rules.run meeting outcome
   pub ends : EndsScripts rules scripts (swept run.places run.case outcome) count tally why output
 
 -- what was counted, where a run came to its end, or enough was run; else why not

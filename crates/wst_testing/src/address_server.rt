@@ -10,7 +10,7 @@ ghost use Rattle.wst_commands.specs.TimeLimits.{is_limited};
 ghost use Rattle.wst_testing.specs.LineOutputs.{EndsOutput, ShowsMeeting};
 ghost use Rattle.wst_testing.specs.Servers.{IsMeetingBy, IsShownMeeting, MeetsAtAddress, ShowsAtAddress, asked_by};
 ghost use Rattle.wst_testing.specs.Servers.{MeetsBecause, ShowsBecause, asked_within, limits_within, meeting_at};
-ghost use Rattle.wst_testing.specs.Servers.{milliseconds_of, reason_of_end, reason_of_miss};
+ghost use Rattle.wst_testing.specs.Servers.{reason_of_end, reason_of_miss};
 ghost use Rattle.wst_sockets.specs.Connecting.{connect_fault_at};
 ghost use Rattle.wst_sockets.specs.declared.meeting.Meeting.TheVariants.{NoConnection};
 
@@ -175,6 +175,9 @@ impl<N: Network, C: Connector> CaseServer for AddressServer<'_, N, C> {
 /// So many milliseconds are a second.
 const SECOND: u64 = 1000;
 
+/// The place of a machine that is alone in its loop.
+const ONLY: usize = 0;
+
 /// How much is read of a server at an address in one case, how long it is waited for, and how long that may last.
 #[derive(Clone, Copy)]
 pub struct Bounds {
@@ -192,19 +195,9 @@ impl Bounds {
         ensures { result ≡ limits_within self.timeout self.deadline }
     {
         Limits {
-            limit: milliseconds(self.timeout),
-            deadline: milliseconds(self.deadline),
+            limit: self.timeout.milliseconds(),
+            deadline: self.deadline.milliseconds(),
         }
-    }
-}
-
-/// A limit of time in milliseconds.
-pub fn milliseconds(limit: TimeLimit) -> Option<u64>
-    ensures { result ≡ milliseconds_of limit }
-{
-    match limit {
-        TimeLimit::Unlimited => None,
-        TimeLimit::Seconds(seconds) => Some(u64::from(seconds) * 1000),
     }
 }
 
@@ -281,7 +274,7 @@ where
         machine: ShownProbe::new(alloc, showing, asking),
         limits: job.bounds.limits(),
     };
-    let mut sink = LineOutput::new(writer);
+    let mut sink = LineOutput::new(ONLY, writer);
     let met = run_at(alloc, network, poller, &mut sink, errand, &mut place)?;
     let meeting = end_shown(met, &mut sink)?;
     Ok(meeting)

@@ -20,7 +20,7 @@ use std::slice;
 use ws_base::NoMemory;
 use ws_frame::Watched;
 use ws_peer::tester_key;
-use ws_suite::{Capture, Case, Transcript, judge_with, write_capture2};
+use ws_suite::{Capture, Case, Expectation, Transcript, judge_with, write_capture2};
 use ws_wire::Role;
 use wst_commands::{Exit, Fault, deliver, exit_of};
 use wst_sockets::Meeting;
@@ -126,7 +126,16 @@ fn tell_came<W: Write, F: Write>(
     ensures still { StaysFailed faults.old faults.new }
 {
     match meeting {
-        Meeting::Ran(transcript) => tell_capture(alloc, rules, transcript, writer),
+        Meeting::Ran(transcript) => {
+            tell_capture(
+                alloc,
+                rules.tested,
+                rules.expected,
+                rules.key,
+                transcript,
+                writer,
+            )
+        }
         Meeting::Refused(refusal) => {
             let outcome = Outcome::HeadRefused(ToldRefusal {
                 fault: refusal.fault,
@@ -147,18 +156,20 @@ fn tell_came<W: Write, F: Write>(
 /// Writes the capture of a run. The exit is that of the verdict on the tested end by its transcript.
 pub fn tell_capture<W: Write>(
     alloc: Global,
-    rules: RunRules,
+    tested: Role,
+    expected: Expectation,
+    key: [u8; 4],
     transcript: Transcript,
     writer: &mut Watched<W>,
 ) -> Result<Exit, Fault>
     requires { has_failed writer.old ≡ false }
     ensures { MatchResult result
-        (λ exit. WritesCapture rules.tested rules.expected (run_capture rules.tested rules.key transcript) exit
+        (λ exit. WritesCapture tested expected (run_capture tested key transcript) exit
         (watched W.contents writer.old writer.new))
         (λ fault. (fault ≡ variant.NoMemory) × (writer.new ≡ writer.old)) }
 {
-    let verdict = judge_with(alloc, rules.tested, rules.expected, &transcript)?;
-    let text = capture_text(alloc, rules.tested, rules.key, transcript)?;
+    let verdict = judge_with(alloc, tested, expected, &transcript)?;
+    let text = capture_text(alloc, tested, key, transcript)?;
     Ok(deliver(exit_of(verdict), text.as_slice(), writer))
 }
 

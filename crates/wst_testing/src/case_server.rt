@@ -8,11 +8,11 @@ ghost use Rattle.wst_testing.specs.LineOutputs.{MayStopLines, ShowsMeeting};
 ghost use Rattle.wst_testing.specs.LineWriting.{HasWrittenRun};
 ghost use Rattle.wst_testing.specs.Servers.{IsMemoryRun, IsPeerRun, MeetsInMemory};
 
-use crate::line_output::{LineStop, flush};
+use crate::line_output::{LineStop, write_lines};
 use std::alloc::Global;
 use std::io::Write;
 use ws_base::NoMemory;
-use ws_frame::{ShowFault, Watched, write_whole};
+use ws_frame::{ShowFault, Watched};
 use ws_lines::Showing;
 use ws_peer::{TungPeer, run_case_with, run_over_echo_as, tester_key};
 use ws_shown::lines_of;
@@ -109,8 +109,7 @@ fn show_ended<W: Write>(
     ensures { OnOk result (HasWrittenRun showing transcript.now (watched W.contents writer.old writer.new)) }
 {
     let text = lines_of(alloc, showing, transcript)?;
-    write_whole(writer, text.as_slice())?;
-    flush(writer)?;
+    write_lines(writer, text.as_slice())?;
     Ok(())
 }
 

@@ -19,8 +19,8 @@ use ws_suite::laws::one_verdict;
 /// expected: the judge is fair, and gives one verdict.
 pub fn our_echo_passes_every_script()
     ensures { (rules : SweepRules) (script : SweptScript) →
-        rules.expected ≡ Echo →
-        IsSwept (MeetsInMemory (record { peer = Own; role = rules.tested }) rules.key) rules script →
+        rules.run.expected ≡ Echo →
+        IsSwept (MeetsInMemory (record { peer = Own; role = rules.run.tested }) rules.run.key) rules script →
         is_pass script.outcome ≡ true }
 {
     one_verdict();

@@ -27,7 +27,7 @@ mod sweeping;
 mod testing;
 mod tried;
 
-pub use address_server::{AddressServer, TellingPoller, milliseconds};
+pub use address_server::{AddressServer, TellingPoller};
 pub use capturing::{capture_case, capture_text, tell_capture};
 pub use case_server::{CaseServer, MemoryEnd, MemoryPeer};
 pub use head_rules::head_rule;
@@ -43,5 +43,5 @@ pub use run_plans::{
 };
 pub use runner::{CaseSource, End, HasCase, ListedCases, RunStop, Sink, run_cases};
 pub use sweeping::{SweepRules, is_told, sweep_scripts, tell_sweep_end, total_of};
-pub use testing::{RunRules, refused_lines, tell_case, tell_progress, test_cases};
+pub use testing::{CaseRun, RunRules, refused_lines, tell_case, tell_progress, test_cases};
 pub use tried::tell_missed;

@@ -1,8 +1,8 @@
-//! The output as the sink of a loop's lines.
+//! The output as the sink of the lines of one place of a loop.
 
-ghost use Rattle.std.specs.Prelude.{◌≡◌, IfOk, OnOk, [], false};
+ghost use Rattle.std.specs.Prelude.{◌≡◌, OnOk, false};
 ghost use Rattle.std.specs.Io.KnownBytes.{Keeps};
-ghost use Rattle.ws_frame.specs.Devices.{HasWritten, watched};
+ghost use Rattle.ws_frame.specs.Devices.{watched};
 ghost use Rattle.ws_frame.specs.Watching.{has_failed, inner_of};
 ghost use Rattle.wst_testing.specs.LineOutputs.{HasWrittenOn, HasWrittenTaken, WritesRest};
 
@@ -52,41 +52,25 @@ impl From<WriteFault> for LineStop {
     }
 }
 
-/// The place of a machine that is alone in its loop.
-pub(crate) const ONLY: usize = 0;
-
-/// It writes the lines of the one machine of a loop, and flushes them. Lines of another place are not taken.
+/// It writes the lines of the machine in this place, and flushes them. Lines of another place are not taken.
 #[derive(Drop)]
 pub struct LineOutput<'a, W> {
-    writer: &'a mut Watched<W>,
+    /// The place.
+    pub at: usize,
+    /// The output.
+    pub writer: &'a mut Watched<W>,
 }
 
-impl<'a, W> LineOutput<'a, W> {
-    /// One that writes to this output.
-    pub fn new(writer: &'a mut Watched<W>) -> LineOutput<'a, W>
+impl<'a, W: Write> LineOutput<'a, W> {
+    /// One that writes those of this place to this output.
+    pub fn new(at: usize, writer: &'a mut Watched<W>) -> LineOutput<'a, W>
+        ensures at { result.at ≡ at }
         ensures writer { result.writer.now ≡ writer.old }
         ensures borrow { result.writer.ghost_name ≡ writer.entry.ghost_name }
     {
-        LineOutput { writer }
+        LineOutput { at, writer }
     }
-}
 
-impl<W: Write> LineOutput<'_, W> {
-    /// Writes these lines, and flushes them.
-    pub(crate) fn write(&mut self, lines: &[u8]) -> Result<(), WriteFault>
-        ensures written { OnOk result (HasWrittenOn W.contents self.old.writer.now self.new.writer.now lines.now) }
-        ensures borrow { self.new.writer.ghost_name ≡ self.old.writer.ghost_name }
-    {
-        if self.writer.failed() {
-            return Err(WriteFault);
-        }
-        write_whole(self.writer, lines)?;
-        flush(self.writer)?;
-        Ok(())
-    }
-}
-
-impl<W: Write> LineOutput<'_, W> {
     /// Writes the last lines, if there are any, and flushes them.
     pub fn write_last(&mut self, last: &[u8]) -> Result<(), WriteFault>
         ensures written { OnOk result (WritesRest W.contents self.old.writer.now self.new.writer.now last.now) }
@@ -95,7 +79,7 @@ impl<W: Write> LineOutput<'_, W> {
         if last.is_empty() {
             return Ok(());
         }
-        self.write(last)?;
+        write_lines(self.writer, last)?;
         Ok(())
     }
 }
@@ -103,20 +87,32 @@ impl<W: Write> LineOutput<'_, W> {
 impl<W: Write> LineSink for LineOutput<'_, W> {
     type Fault = LineStop;
 
-    ghost heard = { λ start now taken. HasWrittenTaken taken start.writer.ghost_name now.writer.ghost_name
-        (watched W.contents start.writer.now now.writer.now) };
+    ghost heard = { λ start now taken. HasWrittenTaken start.at now.at taken start.writer.ghost_name
+        now.writer.ghost_name (watched W.contents start.writer.now now.writer.now) };
 
     fn put(&mut self, at: usize, lines: &[u8]) -> Result<(), LineStop> {
-        if at != ONLY {
+        if at != self.at {
             return Err(LineStop::Output);
         }
-        self.write(lines)?;
+        write_lines(self.writer, lines)?;
         Ok(())
     }
 }
 
+/// Writes these lines, and flushes them.
+pub(crate) fn write_lines<W: Write>(writer: &mut Watched<W>, lines: &[u8]) -> Result<(), WriteFault>
+    ensures { OnOk result (HasWrittenOn W.contents writer.old writer.new lines.now) }
+{
+    if writer.failed() {
+        return Err(WriteFault);
+    }
+    write_whole(writer, lines)?;
+    flush(writer)?;
+    Ok(())
+}
+
 /// Flushes what was written.
-pub(crate) fn flush<W: Write>(writer: &mut Watched<W>) -> Result<(), WriteFault>
+fn flush<W: Write>(writer: &mut Watched<W>) -> Result<(), WriteFault>
     requires { has_failed writer.old ≡ false }
     ensures kept { Keeps (W.contents (inner_of writer.old)) (W.contents (inner_of writer.new)) }
     ensures works { OnOk result (has_failed writer.new ≡ false) }

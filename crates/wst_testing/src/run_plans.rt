@@ -7,9 +7,9 @@ ghost use Rattle.ws_connection.specs.RequestHeaders.{headers_in};
 ghost use Rattle.wst_testing.specs.RunPlans.{GivesMaxFail, HasHeaders, HasMaxFail, header_words};
 ghost use Rattle.wst_testing.specs.RunPlans.{CanConnect, IsClientsAddress, IsConnectAddress, IsEndOf, IsRunPlan};
 ghost use Rattle.wst_testing.specs.RunPlans.{CanNotRun, IsUrl};
-ghost use Rattle.wst_testing.specs.RunPlans.{AdvisesClients, RefusesTarget, TellsRefusal, address_text, tested_role};
-ghost use Rattle.wst_testing.specs.RunPlans.{IsDeadlineRefusal, IsTimeoutRefusal, IsWaitRefusal, WaitsForServer};
-ghost use Rattle.wst_testing.specs.RunPlans.{gives_limit, tells_waits, usual_deadline, usual_timeout};
+ghost use Rattle.wst_testing.specs.RunPlans.{AdvisesClients, RefusesTarget, TellsRefusal, address_text, is_in_memory};
+ghost use Rattle.wst_testing.specs.RunPlans.{IsLimitRefusal, WaitsForServer};
+ghost use Rattle.wst_testing.specs.RunPlans.{gives_limit, tested_role, tells_waits, usual_deadline, usual_timeout};
 ghost use Rattle.ws_wire.specs.declared.role.Role.{Role};
 ghost use Rattle.ws_wire.specs.declared.role.Role.TheVariants.{Client, Server};
 ghost use Rattle.wst_commands.specs.declared.exit.Exit.TheVariants.{WrongWords};
@@ -57,6 +57,16 @@ impl TestedEnd<'_> {
             TestedEnd::Memory(end) => end.role,
             TestedEnd::Server(_) => Role::Server,
             TestedEnd::Clients(_) => Role::Client,
+        }
+    }
+
+    /// Whether it stands in memory.
+    pub fn is_in_memory(&self) -> bool
+        ensures { result ≡ is_in_memory self.now }
+    {
+        match self {
+            TestedEnd::Memory(_) => true,
+            TestedEnd::Server(_) | TestedEnd::Clients(_) => false,
         }
     }
 }
@@ -157,6 +167,8 @@ pub enum Refusal<'a> {
     BadConnect,
     /// A capture is asked for beside an earlier run or a document.
     CaptureInReport,
+    /// Times are asked for, and the end stands in memory.
+    TimeInMemory,
     /// A capture is asked for, and not exactly one case is given.
     NotOneCase,
     /// The number of failures that are to end a run is none of 1 to 1000.
@@ -205,13 +217,21 @@ pub fn plan_run<'a>(
         return Err(Refusal::BadHeader);
     };
     let Some(timeout) = run_timeout_given(options.timeout, usual.timeout()) else {
-        return Err(timeout_refusal(options.timeout));
+        return Err(limit_refusal(
+            options.timeout,
+            Refusal::TimeoutWithUnit,
+            Refusal::BadTimeout,
+        ));
     };
     let Some(wait) = wait_given(options.wait) else {
-        return Err(wait_refusal(options.wait));
+        return Err(limit_refusal(options.wait, Refusal::WaitWithUnit, Refusal::BadWait));
     };
     let Some(deadline) = deadline_given(options.deadline, usual.deadline(timeout)) else {
-        return Err(deadline_refusal(options.deadline));
+        return Err(limit_refusal(
+            options.deadline,
+            Refusal::DeadlineWithUnit,
+            Refusal::BadDeadline,
+        ));
     };
     let Some(key) = read_key(options.key.as_bytes()) else {
         return Err(Refusal::BadKey);
@@ -269,37 +289,11 @@ fn waits_for_server(role: Role, wait: Option<&str>) -> bool
     }
 }
 
-/// What is wrong with a word that is no limit of time for a byte.
-fn timeout_refusal<'a>(timeout: Option<&str>) -> Refusal<'a>
-    ensures { IsTimeoutRefusal timeout.entry result }
+/// What is wrong with a word that is no limit of time: the one where it is digits with a unit, else the other.
+fn limit_refusal<'a>(word: Option<&str>, with_unit: Refusal<'a>, bad: Refusal<'a>) -> Refusal<'a>
+    ensures { IsLimitRefusal word.entry with_unit.entry bad.entry result }
 {
-    if has_unit(timeout) {
-        Refusal::TimeoutWithUnit
-    } else {
-        Refusal::BadTimeout
-    }
-}
-
-/// What is wrong with a word that is no limit of time for a client.
-fn wait_refusal<'a>(wait: Option<&str>) -> Refusal<'a>
-    ensures { IsWaitRefusal wait.entry result }
-{
-    if has_unit(wait) {
-        Refusal::WaitWithUnit
-    } else {
-        Refusal::BadWait
-    }
-}
-
-/// What is wrong with a word that is no limit of time for a connection.
-fn deadline_refusal<'a>(deadline: Option<&str>) -> Refusal<'a>
-    ensures { IsDeadlineRefusal deadline.entry result }
-{
-    if has_unit(deadline) {
-        Refusal::DeadlineWithUnit
-    } else {
-        Refusal::BadDeadline
-    }
+    if has_unit(word) { with_unit } else { bad }
 }
 
 /// The headers of the words. `None` where a request can't have them.
@@ -479,6 +473,7 @@ pub fn tell_refusal<F: Write>(alloc: Global, refusal: Refusal<'_>, faults: &mut 
         Refusal::CaptureInReport => {
             tell_wrong(b"--capture does not go with --known or --junit\n", faults)
         }
+        Refusal::TimeInMemory => tell_wrong(b"--time does not go with own or tung\n", faults),
         Refusal::NotOneCase => tell_wrong(b"--capture takes one case\n", faults),
         Refusal::BadMaxFail => tell_wrong(
             b"bad max-fail\n  a whole number, 1 to 1000: --max-fail 10\n",

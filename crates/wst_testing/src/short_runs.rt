@@ -61,7 +61,7 @@ fn text_of(
     ensures { IfOk result (λ text. string_bytes text ≡ whole_text rules script.now case.now) }
 {
     let steps = case.steps.as_slice();
-    tell_steps(alloc, rules.tested, rules.expected, script, steps)
+    tell_steps(alloc, rules.run.tested, rules.run.expected, script, steps)
 }
 
 /// Every script of at most so many steps in their order, each with its case.
@@ -90,11 +90,11 @@ impl ShortRuns {
         requires { rules.steps ≤ max_steps }
         ensures { AreAllScripts rules result }
     {
-        let key = tester_key(rules.tested, rules.key);
+        let key = tester_key(rules.run.tested, rules.run.key);
         ShortRuns {
             rules,
             scripts: ShortScripts::up_to(rules.steps),
-            cases: ShortCases::new(rules.tested, rules.expected, key),
+            cases: ShortCases::new(rules.run.tested, rules.run.expected, key),
             last: None,
         }
     }

@@ -8,7 +8,7 @@ ghost use Rattle.ws_sweep.specs.Order.{max_steps};
 ghost use Rattle.wst_commands.specs.Devices.{StaysFailed};
 ghost use Rattle.wst_testing.specs.Hints.{hint_with, notes_with};
 ghost use Rattle.wst_testing.specs.Notes.{TellsEach};
-ghost use Rattle.wst_testing.specs.Sweeps.{CountsScripts, IsCounted, SweepsScripts, TellsSweepEnd, case_rules, is_told};
+ghost use Rattle.wst_testing.specs.Sweeps.{CountsScripts, IsCounted, SweepsScripts, TellsSweepEnd, is_told};
 ghost use Rattle.wst_testing.specs.Sweeps.{missed_by, script_line, script_notes, sweep_total, swept, whole_text};
 
 use crate::case_server::CaseServer;
@@ -23,31 +23,22 @@ use std::alloc::Global;
 use std::io::Write;
 use ws_base::NoMemory;
 use ws_frame::{Watched, write_whole};
-use ws_suite::{Expectation, Verdict};
+use ws_suite::Verdict;
 use ws_sweep::script_count;
-use ws_wire::Role;
 use wst_commands::{Exit, Fault, tell, tell_fault};
 use wst_sockets::{ConnectFault, Meeting};
 
 /// How short scripts are run.
 #[derive(Clone, Copy)]
 pub struct SweepRules {
-    /// The role of the tested end.
-    pub tested: Role,
-    /// What is expected of it.
-    pub expected: Expectation,
+    /// How each is run, whose name is its steps. The first without a connection ends the run.
+    pub run: RunRules,
     /// Those of at most so many steps.
     pub steps: usize,
     /// What is Loose is told too.
     pub all: bool,
-    /// The steps of each are told before it runs.
-    pub progress: bool,
-    /// The masking key of the client's frames.
-    pub key: [u8; 4],
     /// Each case is named by its steps, so that a wait of it can be told.
     pub names: bool,
-    /// So many Fails end the run, where a number of them is given.
-    pub max_fail: Option<u32>,
 }
 
 /// Every script of at most so many steps is run in their order, each over a new end, and its line is written, where
@@ -62,7 +53,7 @@ pub fn sweep_scripts<S: CaseServer, W: Write, F: Write>(
 ) -> Result<Exit, RunStop>
     requires works { has_failed writer.old ≡ false }
     requires steps { rules.steps ≤ max_steps }
-    ensures { SweepsScripts (S.meets server.now rules.key) rules result (watched W.contents writer.old writer.new) }
+    ensures { SweepsScripts (S.meets server.now rules.run.key) rules result (watched W.contents writer.old writer.new) }
 {
     let (count, tally) = run_scripts(alloc, server, rules, writer, faults)?;
     let total = total_of(alloc, count, tally)?;
@@ -80,7 +71,7 @@ fn run_scripts<S: CaseServer, W: Write, F: Write>(
 ) -> Result<(usize, Tally), RunStop>
     requires works { has_failed writer.old ≡ false }
     requires steps { rules.steps ≤ max_steps }
-    ensures { CountsScripts (S.meets server.now rules.key) rules result (watched W.contents writer.old writer.new) }
+    ensures { CountsScripts (S.meets server.now rules.run.key) rules result (watched W.contents writer.old writer.new) }
 {
     let mut runs = ShortRuns::of(rules);
     let mut sweeper = Sweeper {
@@ -91,7 +82,7 @@ fn run_scripts<S: CaseServer, W: Write, F: Write>(
         writer,
         faults,
     };
-    let ended = run_cases(alloc, server, rules.key, &mut runs, &mut sweeper);
+    let ended = run_cases(alloc, server, rules.run.key, &mut runs, &mut sweeper);
     counted(ended, sweeper.count, sweeper.tally)
 }
 
@@ -148,7 +139,7 @@ impl<W: Write, F: Write> Sink for Sweeper<'_, '_, W, F> {
     }
 
     fn came(&mut self, alloc: Global, run: &ShortRun, meeting: Meeting) -> Result<(), RunStop> {
-        let outcome = judged(alloc, case_rules(self.rules), meeting)?;
+        let outcome = judged(alloc, self.rules.run, meeting)?;
         match missed_by(&outcome) {
             Some(why) => return Err(RunStop::NoConnection(why)),
             None => {}
@@ -161,7 +152,7 @@ impl<W: Write, F: Write> Sink for Sweeper<'_, '_, W, F> {
         self.hint = hint_behind(self.hint, &outcome, self.faults);
         self.tally = self.tally.with(&outcome);
         self.count = one_more(self.count);
-        if is_enough(self.rules.max_fail, self.tally.fail) {
+        if is_enough(self.rules.run.max_fail, self.tally.fail) {
             return Err(RunStop::Enough);
         }
         Ok(())
@@ -187,22 +178,6 @@ fn one_more(count: usize) -> usize
     count + 1
 }
 
-/// How the case of a script is run.
-fn case_rules(rules: SweepRules) -> RunRules
-    ensures { result ≡ case_rules rules }
-{
-    let key = rules.key;
-    RunRules {
-        tested: rules.tested,
-        expected: rules.expected,
-        key,
-        explains: None,
-        progress: false,
-        is_limited: false,
-        max_fail: None,
-    }
-}
-
 /// Why there is no connection to the tested end, where there is none.
 fn missed_by(outcome: &Outcome) -> Option<ConnectFault>
     ensures { result ≡ missed_by outcome.now }
@@ -220,11 +195,12 @@ fn tell_run<F: Write>(
     run: &ShortRun,
     faults: &mut Watched<F>,
 ) -> Result<(), NoMemory>
-    ensures told { OnOk result (TellsEach (script_notes rules.progress (whole_text rules run.now.places run.now.case))
+    ensures told { OnOk result (TellsEach
+        (script_notes rules.run.progress (whole_text rules run.now.places run.now.case))
         (watched F.contents faults.old faults.new)) }
     ensures kept { OnErr result (faults.new ≡ faults.old) }
 {
-    if !rules.progress {
+    if !rules.run.progress {
         return Ok(());
     }
     let mut line = run.text(alloc, rules)?;

@@ -54,6 +54,22 @@ pub struct RunRules {
     pub max_fail: Option<u32>,
 }
 
+/// Which cases are run, over which end, and how.
+#[derive(Clone, Copy)]
+pub struct CaseRun<'a> {
+    pub rules: RunRules,
+    pub cases: &'a [Case],
+    /// The end whose address is told where it was refused.
+    pub tested: &'a TestedEnd<'a>,
+}
+
+/// What is told at the end of a run: what its report has, of what the cases come to.
+#[derive(Clone, Copy)]
+struct Total<'a> {
+    report: &'a Report,
+    score: &'a Score,
+}
+
 /// Runs the cases in their order, each over a new end, and writes what the report has of each as soon as it is judged,
 /// and the total last, with a summary and counts beside an earlier run where these are asked for (behind a document all
 /// of them go to `faults`). What can't be written ends the run, and so does, after it is told, an end to which there is
@@ -63,19 +79,23 @@ pub struct RunRules {
 pub fn test_cases<S: CaseServer, W: Write, F: Write>(
     alloc: Global,
     server: &S,
-    rules: RunRules,
+    run: CaseRun<'_>,
     report: &Report,
-    cases: &[Case],
-    tested: &TestedEnd<'_>,
     writer: &mut Watched<W>,
     faults: &mut Watched<F>,
 ) -> Result<Exit, Fault>
     requires works { has_failed writer.old ≡ false }
-    requires can_be_run { All CanBeRun cases.now }
-    ensures runs { RunsCases (S.meets server.now rules.key) rules report.now cases.now tested.now result
-        (watched W.contents writer.old writer.new) (watched F.contents faults.old faults.new) }
+    requires can_be_run { All CanBeRun run.cases.now }
+    ensures runs { RunsCases (S.meets server.now run.entry.rules.key) run.entry.rules report.now run.entry.cases.now
+        run.entry.tested.now result (watched W.contents writer.old writer.new)
+        (watched F.contents faults.old faults.new) }
     ensures still { StaysFailed faults.old faults.new }
 {
+    let CaseRun {
+        rules,
+        cases,
+        tested,
+    } = run;
     let mut score = Score::new(alloc);
     let mut reporter = Reporter {
         rules,
@@ -90,7 +110,13 @@ pub fn test_cases<S: CaseServer, W: Write, F: Write>(
     let ended = run_cases(alloc, server, rules.key, &mut listed, &mut reporter);
     match ended {
         Ok(()) => tell_end(alloc, report, &score, writer, faults),
-        Err(why) => stopped_by(alloc, why, tested, report, &score, writer, faults),
+        Err(why) => {
+            let total = Total {
+                report,
+                score: &score,
+            };
+            stopped_by(alloc, why, tested, total, writer, faults)
+        }
     }
 }
 
@@ -100,19 +126,18 @@ fn stopped_by<W: Write, F: Write>(
     alloc: Global,
     why: RunStop,
     tested: &TestedEnd<'_>,
-    report: &Report,
-    score: &Score,
+    total: Total<'_>,
     writer: &mut Watched<W>,
     faults: &mut Watched<F>,
 ) -> Result<Exit, Fault>
     requires { WorksFor why (has_failed writer.old) }
-    ensures is { IsEndOfStop tested.now report.now score.now why result (writer.new ≡ writer.old)
-        (faults.new ≡ faults.old) (watched W.contents writer.old writer.new)
+    ensures is { IsEndOfStop tested.now total.entry.report.now total.entry.score.now why result
+        (writer.new ≡ writer.old) (faults.new ≡ faults.old) (watched W.contents writer.old writer.new)
         (watched F.contents faults.old faults.new) }
     ensures still { StaysFailed faults.old faults.new }
 {
     match why {
-        RunStop::Enough => tell_end(alloc, report, score, writer, faults),
+        RunStop::Enough => tell_end(alloc, total.report, total.score, writer, faults),
         RunStop::Output => Ok(Exit::Failed),
         RunStop::NoConnection(why) => {
             tell_tried(tested, why, faults);

@@ -4,7 +4,8 @@ use Rattle.ws_clients.specs.Talks.{IsAdmission}
 use Rattle.ws_frame.specs.Devices.{watched}
 use Rattle.ws_handshake.specs.declared.admission.Admission.{Admission}
 use Rattle.ws_tester.specs.Following.{WasTold}
-use Rattle.wst_testing.specs.Servers.{DidThese, milliseconds_of}
+use Rattle.wst_testing.specs.Servers.{DidThese}
+use Rattle.wst_commands.specs.TimeLimits.{milliseconds_of}
 use Rattle.wst_clients.specs.Turns.{met_clients}
 use Rattle.wst_clients.specs.Visitors.{StayHeldWith}
 use Rattle.wst_clients.specs.Visits.{known_by}

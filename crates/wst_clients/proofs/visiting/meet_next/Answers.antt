@@ -27,6 +27,10 @@ pub returns-in-TooLate-clause-held : goal.returns-in-TooLate-clause-held
 returns-in-TooLate-clause-held g c = held_next g.L.Client.NonBlocking.did c.args.visitors.now c.next.new.self
     c.in_ok-event.ensures.stay c.in_ok-event.ensures.held c.requires.held
 
+pub returns-in-Full-clause-held : goal.returns-in-Full-clause-held
+returns-in-Full-clause-held g c = held_next g.L.Client.NonBlocking.did c.args.visitors.now c.next.new.self
+    c.in_ok-event.ensures.stay c.in_ok-event.ensures.held c.requires.held
+
 pub returns-in-Deaf-clause-held : goal.returns-in-Deaf-clause-held
 returns-in-Deaf-clause-held g c = held_next g.L.Client.NonBlocking.did c.args.visitors.now c.next.new.self
     c.in_ok-event.ensures.stay c.in_ok-event.ensures.held c.requires.held
@@ -45,4 +49,4 @@ returns-in-Played-clause-held g c = held_played g.L.Client.NonBlocking.did c.arg
 pub returns-clause-held : goal.returns-clause-held
 returns-clause-held g c = held_gone g.L.Client.NonBlocking.did c.args.visitors.now
     c.next.new.self c.leave-in-Gone.new.self c.in_ok-event.event c.in_ok-event.ensures.stay c.in_ok-event.ensures.held
-    c.in_ok-event.ensures.fresh c.requires.held c.in-Gone.at c.in-Gone.is c.leave-in-Gone.ensures.held
+    c.in_ok-event.ensures.fresh c.requires.held c.in-Gone.at _ c.in-Gone.is c.leave-in-Gone.ensures.held

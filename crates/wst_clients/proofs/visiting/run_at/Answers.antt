@@ -4,7 +4,7 @@ use Rattle.std.proofs.KnownBytes.{Keeps-refl}
 use Rattle.ws_frame.specs.Devices.{watched}
 use Rattle.ws_frame.specs.Watching.{has_failed, inner_of}
 use Rattle.ws_scripts.specs.declared.transcript.Transcript.{Transcript}
-use Rattle.wst_testing.specs.Servers.{milliseconds_of}
+use Rattle.wst_commands.specs.TimeLimits.{milliseconds_of}
 use Rattle.wst_clients.specs.Turns.{RunsOn, met_clients}
 use Rattle.wst_clients.specs.Visits.{known_by}
 use Rattle.wst_clients.proofs.TurnLemmas.{passed_none, passed_then}

@@ -1,7 +1,7 @@
 -- The case has ended, or it plays on where something else has happened.
 use Rattle.std.proofs.Common.{None}
 use Rattle.wst_clients.proofs.HeldLemmas.{held_decided, held_gone, held_next, held_played, held_same}
-use Rattle.wst_clients.proofs.VisitingLemmas.{on_deaf, on_decided, on_end, on_gone, on_late, on_played}
+use Rattle.wst_clients.proofs.VisitingLemmas.{on_deaf, on_decided, on_end, on_full, on_gone, on_late, on_played}
 use Rattle.wst_clients.proofs.VisitorLemmas.{decided_now}
 use Rattle.wst_clients.proofs.visiting.run_on.Goals as goal
 
@@ -20,7 +20,7 @@ returns-else-place-at-clause-runs g c = on_played _ g.L.Client.NonBlocking.did c
 pub returns-else-place-at-2-clause-runs : goal.returns-else-place-at-2-clause-runs
 returns-else-place-at-2-clause-runs g c = on_gone _ g.L.Client.NonBlocking.did c.args.visitors.now.clients.places
     c.next.new.self.clients.places c.leave-in-Gone.new.self.clients.places c.args.at _ _ c.in_ok-event.event
-    c.in_ok-event.ensures.plays c.leave-in-Gone.ensures.plays c.in-Gone.place c.in-Gone.is c.if-place-at-2.false
+    c.in_ok-event.ensures.plays c.leave-in-Gone.ensures.plays c.in-Gone.place _ c.in-Gone.is c.if-place-at-2.false
 
 pub admit-requires-clause-came : goal.admit-requires-clause-came
 admit-requires-clause-came g c = decided_now g.L.Client.NonBlocking.did g.L.Listener.did g.P.Poller.time
@@ -38,6 +38,11 @@ pub returns-in-TooLate-clause-runs : goal.returns-in-TooLate-clause-runs
 returns-in-TooLate-clause-runs g c = on_late _ g.L.Client.NonBlocking.did c.args.visitors.now.clients.places
     c.next.new.self.clients.places c.next.new.self.clients.places c.args.at _ _ c.in_ok-event.event
     c.in_ok-event.ensures.plays (λ at start stream happened plays. plays) c.in-TooLate.is
+
+pub returns-in-Full-clause-runs : goal.returns-in-Full-clause-runs
+returns-in-Full-clause-runs g c = on_full _ g.L.Client.NonBlocking.did c.args.visitors.now.clients.places
+    c.next.new.self.clients.places c.next.new.self.clients.places c.args.at _ _ c.in_ok-event.event
+    c.in_ok-event.ensures.plays (λ at start stream happened plays. plays) _ c.in-Full.is
 
 pub returns-in-Deaf-clause-runs : goal.returns-in-Deaf-clause-runs
 returns-in-Deaf-clause-runs g c = on_deaf _ g.L.Client.NonBlocking.did c.args.visitors.now.clients.places
@@ -60,7 +65,7 @@ returns-else-place-at-clause-held g c = held_played g.L.Client.NonBlocking.did c
 pub returns-else-place-at-2-clause-held : goal.returns-else-place-at-2-clause-held
 returns-else-place-at-2-clause-held g c = held_gone g.L.Client.NonBlocking.did c.args.visitors.now
     c.next.new.self c.leave-in-Gone.new.self c.in_ok-event.event c.in_ok-event.ensures.stay
-    c.in_ok-event.ensures.held c.in_ok-event.ensures.fresh c.requires.held c.in-Gone.place c.in-Gone.is
+    c.in_ok-event.ensures.held c.in_ok-event.ensures.fresh c.requires.held c.in-Gone.place _ c.in-Gone.is
     c.leave-in-Gone.ensures.held
 
 pub returns-in_ok-admit-in-Decided-clause-held : goal.returns-in_ok-admit-in-Decided-clause-held
@@ -71,6 +76,10 @@ returns-in_ok-admit-in-Decided-clause-held g c = held_decided g.L.Client.NonBloc
 
 pub returns-in-TooLate-clause-held : goal.returns-in-TooLate-clause-held
 returns-in-TooLate-clause-held g c = held_next g.L.Client.NonBlocking.did c.args.visitors.now c.next.new.self
+    c.in_ok-event.ensures.stay c.in_ok-event.ensures.held c.requires.held
+
+pub returns-in-Full-clause-held : goal.returns-in-Full-clause-held
+returns-in-Full-clause-held g c = held_next g.L.Client.NonBlocking.did c.args.visitors.now c.next.new.self
     c.in_ok-event.ensures.stay c.in_ok-event.ensures.held c.requires.held
 
 pub returns-in-Deaf-clause-held : goal.returns-in-Deaf-clause-held

@@ -2,7 +2,7 @@
 use Rattle.std.proofs.Common.{◌∙◌, sym}
 use Rattle.ws_handshake.specs.declared.admission.Admission.TheVariants as admission
 use Rattle.ws_tester.specs.Following.{WasTold}
-use Rattle.wst_testing.specs.Servers.{milliseconds_of}
+use Rattle.wst_commands.specs.TimeLimits.{milliseconds_of}
 use Rattle.wst_clients.specs.Visits.{known_by}
 use Rattle.wst_clients.proofs.HeldLemmas.{with_after, with_but}
 use Rattle.wst_clients.proofs.TurnLemmas.{asks_now}

@@ -2,7 +2,7 @@
 use Rattle.std.proofs.Common.{◌∙◌, ◌∷◌, ap, refl, subst, sym}
 use Rattle.std.specs.Prelude.{Vec}
 use Rattle.std.specs.declared.alloc.Global.{Global}
-use Rattle.wst_testing.specs.Servers.{milliseconds_of}
+use Rattle.wst_commands.specs.TimeLimits.{milliseconds_of}
 use Rattle.wst_clients.specs.Visitors.{IsEndAskedSo}
 use Rattle.wst_clients.specs.Visits.{known_by}
 use Rattle.wst_clients.specs.declared.visitors.Ending.{Ending}

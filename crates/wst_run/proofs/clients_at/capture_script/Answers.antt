@@ -5,8 +5,8 @@ use Rattle.ws_frame.specs.Devices.{watched}
 use Rattle.ws_frame.specs.Watching.{inner_of}
 use Rattle.ws_scripts.specs.declared.transcript.Transcript.{Transcript}
 use Rattle.wst_clients.specs.ClientSends.{ScriptsOver}
-use Rattle.wst_sockets.specs.declared.clients.Waits.{Waits}
-use Rattle.wst_testing.specs.Servers.{milliseconds_of}
+use Rattle.wst_sockets.specs.declared.waits.Waits.{Waits}
+use Rattle.wst_commands.specs.TimeLimits.{milliseconds_of}
 use Rattle.ws_scripts.specs.Captures2.{written_capture2}
 use Rattle.wst_commands.proofs.Delivering.{delivers_same}
 use Rattle.wst_commands.specs.declared.exit.Exit.TheVariants.{Done}

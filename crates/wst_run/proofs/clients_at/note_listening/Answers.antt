@@ -4,7 +4,7 @@ use Rattle.std.proofs.KnownBytes.{Keeps-refl}
 use Rattle.ws_frame.specs.Devices.{watched}
 use Rattle.ws_frame.specs.Watching.{inner_of}
 use Rattle.wst_commands.specs.Devices.{Tells}
-use Rattle.wst_sockets.specs.Serve.{listening_line}
+use Rattle.wst_services.specs.Serve.{listening_line}
 use Rattle.wst_run.proofs.clients_at.note_listening.Goals as goal
 
 pub returns-clause-told : goal.returns-clause-told

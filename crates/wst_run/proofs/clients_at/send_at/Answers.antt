@@ -4,7 +4,7 @@ use Rattle.std.proofs.KnownBytes.{Keeps-refl}
 use Rattle.ws_frame.specs.Devices.{IsUntouched, watched}
 use Rattle.ws_frame.specs.Watching.{inner_of}
 use Rattle.wst_commands.specs.declared.fault.Fault.TheVariants.{NoMemory}
-use Rattle.wst_run.specs.ClientRuns.{CanNotListen}
+use Rattle.wst_sockets.specs.Listening.{CanNotListen}
 use Rattle.wst_run.proofs.ClientRunLemmas.{none_heard, none_lacks}
 use Rattle.wst_sockets.specs.Listening.{IsToldFor}
 use Rattle.wst_run.proofs.clients_at.send_at.Goals as goal
@@ -29,8 +29,8 @@ returns-in_err-note_listening-clause-sends g c =
 
 pub returns-then-plan-clause-sends : goal.returns-then-plan-clause-sends
 returns-then-plan-clause-sends g c =
-    let told : IsToldFor c.args.site.now.address.now c.as_slice.result.now = subst
-    (λ (l : List ℕ). IsToldFor c.args.site.now.address.now l) (sym c.as_slice.ensures.value) c.in_ok-heard.ensures in
+    let told : IsToldFor c.args.address.now c.as_slice.result.now = subst
+    (λ (l : List ℕ). IsToldFor c.args.address.now l) (sym c.as_slice.ensures.value) c.in_ok-heard.ensures in
     inl (
       c.as_slice.result.now,
       told,
@@ -44,8 +44,8 @@ returns-then-plan-clause-sends g c =
 
 pub returns-clause-sends : goal.returns-clause-sends
 returns-clause-sends g c =
-    let told : IsToldFor c.args.site.now.address.now c.as_slice.result.now = subst
-    (λ (l : List ℕ). IsToldFor c.args.site.now.address.now l) (sym c.as_slice.ensures.value) c.in_ok-heard.ensures in
+    let told : IsToldFor c.args.address.now c.as_slice.result.now = subst
+    (λ (l : List ℕ). IsToldFor c.args.address.now l) (sym c.as_slice.ensures.value) c.in_ok-heard.ensures in
     inl (
       c.as_slice.result.now,
       told,

@@ -3,8 +3,8 @@ use Rattle.std.proofs.Common.{None, Option, Some, ap, inr, refl, rules, subst, s
 use Rattle.ws_frame.specs.Devices.{watched}
 use Rattle.ws_scripts.specs.declared.transcript.Transcript.{Transcript}
 use Rattle.wst_clients.specs.ClientSends.{ScriptsOver}
-use Rattle.wst_sockets.specs.declared.clients.Waits.{Waits}
-use Rattle.wst_testing.specs.Servers.{milliseconds_of}
+use Rattle.wst_sockets.specs.declared.waits.Waits.{Waits}
+use Rattle.wst_commands.specs.TimeLimits.{milliseconds_of}
 use Rattle.ws_lines.specs.declared.transcript_lines.Showing.{Showing}
 use Rattle.wst_clients.specs.ClientSends.{ShowsSent}
 use Rattle.wst_run.proofs.ClientRunLemmas.{plan_sent, sends_shown, sends_stopped}
@@ -55,7 +55,7 @@ returns-clause-sends g c =
     (subst (λ (s : Option Transcript). ShowsSent c.client_showing-showing.result s output) c.in-Some.is
     c.in-Ok.ensures.shown) in
     sends_shown plan case transcript output faults
-    (watched g.F.Write.contents c.show_client.new.faults c.hint_client.new.faults)
+    (watched g.F.Write.contents c.show_client.new.faults c.hint_echo.new.faults)
     (plan_sent g.L.Listener.did g.P.Poller.time old new plan case c.script_rules-rules.result
     c.script_rules-rules.ensures known waits (Some transcript) faults sent) c.requires.shows shown refl
-    c.hint_client.ensures.still c.hint_client.ensures.hints
+    c.hint_echo.ensures.still c.hint_echo.ensures.hints

@@ -12,7 +12,7 @@ use Rattle.wst_run.specs.declared.clients_at.ClientJob.{ClientJob}
 use Rattle.wst_run.specs.declared.clients_at.ClientJob.TheVariants.{Capture, Document, Lines}
 use Rattle.wst_run.proofs.ClientRunLemmas.{told_as}
 use Rattle.wst_sockets.proofs.WrittenLemmas.{was_begun, was_written}
-use Rattle.wst_sockets.specs.Serve.{listening_line}
+use Rattle.wst_services.specs.Serve.{listening_line}
 use Rattle.wst_run.proofs.clients_at.test_told.Goals as goal
 
 pub capture_client-requires-clause-one : goal.capture_client-requires-clause-one

@@ -6,9 +6,9 @@ use Rattle.ws_frame.specs.Watching.{inner_of}
 use Rattle.wst_commands.specs.declared.fault.Fault.TheVariants.{NoMemory}
 use Rattle.wst_commands.specs.declared.time_limit.TimeLimit.{TimeLimit}
 use Rattle.wst_sockets.specs.Listening.{IsToldFor}
-use Rattle.wst_sockets.specs.declared.clients.Waits.{Waits}
-use Rattle.wst_testing.specs.Servers.{milliseconds_of}
-use Rattle.wst_run.specs.ClientRuns.{CanNotListen}
+use Rattle.wst_sockets.specs.declared.waits.Waits.{Waits}
+use Rattle.wst_commands.specs.TimeLimits.{milliseconds_of}
+use Rattle.wst_sockets.specs.Listening.{CanNotListen}
 use Rattle.wst_run.proofs.ClientRunLemmas.{none_heard, none_lacks, visits_by, waits_as}
 use Rattle.wst_run.proofs.clients_at.visit_at.Goals as goal
 
@@ -37,13 +37,13 @@ test_told-requires-clause-are g c = waits_as c.in_ok-visitors.visitors _ _ _ _
 
 pub returns-clause-tests : goal.returns-clause-tests
 returns-clause-tests g c =
-    let told : IsToldFor c.args.site.now.address.now c.as_slice-address.result.now = subst
-    (λ (l : List ℕ). IsToldFor c.args.site.now.address.now l) (sym c.as_slice-address.ensures.value)
+    let told : IsToldFor c.args.address.now c.as_slice-told.result.now = subst
+    (λ (l : List ℕ). IsToldFor c.args.address.now l) (sym c.as_slice-told.ensures.value)
     c.in_ok-heard.ensures in
     inl (
-      c.as_slice-address.result.now,
+      c.as_slice-told.result.now,
       told,
-      visits_by _ _ c.in_ok-visitors.visitors c.args.visits.rules.now c.as_slice-address.result.now c.args.visits.job
+      visits_by _ _ c.in_ok-visitors.visitors c.args.visits.rules.now c.as_slice-told.result.now c.args.visits.job
           c.test_told.result (watched g.W.Write.contents c.args.writer.now c.test_told.new.writer)
           (watched g.F.Write.contents c.args.faults.now c.test_told.new.faults) c.test_told.ensures.tests,
     )

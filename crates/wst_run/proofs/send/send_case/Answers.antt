@@ -1,21 +1,19 @@
--- A script is run for its capture, or shown.
-use Rattle.std.proofs.Common.{Bool, subst, sym}
+-- The script is run over the end that the plan names.
 use Rattle.ws_frame.specs.Devices.{watched}
-use Rattle.wst_run.specs.Send.{MeetsAs, SendsCase}
+use Rattle.wst_run.proofs.EndLemmas.{sends_clients, sends_end}
 use Rattle.wst_run.proofs.send.send_case.Goals as goal
 
-pub returns-then-plan : goal.returns-then-plan
-returns-then-plan g c =
+pub returns-in-Ok-clause-sends : goal.returns-in-Ok-clause-sends
+returns-in-Ok-clause-sends g c =
     let plan = c.args.plan.now in
-    subst (λ (b : Bool). SendsCase (MeetsAs b (g.S.CaseServer.meets c.args.server.now plan.run.key)
-    (g.S.CaseServer.meets_shown c.args.server.now plan.run.key)) plan c.args.case.now c.send_captured.result
-    (watched g.W.Write.contents c.args.writer.now c.send_captured.new.writer)) (sym c.if-plan.true)
-    c.send_captured.ensures
+    sends_end plan.run.tested plan c.in-Ok.end c.args.case.now c.send_over.result
+    (watched g.W.Write.contents c.args.writer.now c.send_over.new.writer)
+    (watched g.F.Write.contents c.args.faults.now c.send_over.new.faults) c.in-Ok.ensures c.send_over.ensures.sends
 
-pub returns-else-plan : goal.returns-else-plan
-returns-else-plan g c =
+pub returns-in-Err-clause-sends : goal.returns-in-Err-clause-sends
+returns-in-Err-clause-sends g c =
     let plan = c.args.plan.now in
-    subst (λ (b : Bool). SendsCase (MeetsAs b (g.S.CaseServer.meets c.args.server.now plan.run.key)
-    (g.S.CaseServer.meets_shown c.args.server.now plan.run.key)) plan c.args.case.now c.send_shown.result
-    (watched g.W.Write.contents c.args.writer.now c.send_shown.new.writer)) (sym c.if-plan.false)
-    c.send_shown.ensures
+    sends_clients plan.run.tested plan c.of_plan.result c.in-Err.address c.args.case.now c.send_at.result
+    (watched g.W.Write.contents c.args.writer.now c.send_at.new.writer)
+    (watched g.F.Write.contents c.args.faults.now c.send_at.new.faults) c.in-Err.is c.of_plan.ensures
+    c.send_at.ensures.sends

@@ -13,6 +13,6 @@ returns-clause-sweeps g c =
       rules,
       c.sweep_rules-rules.ensures.rules,
       subst
-          (λ (j : ClientJob). VisitsAt c.args.site.now.address.now j rules c.visit_at.result output faults)
+          (λ (j : ClientJob). VisitsAt c.args.address.now j rules c.visit_at.result output faults)
           c.sweep_job-job.ensures c.visit_at.ensures.tests,
     )

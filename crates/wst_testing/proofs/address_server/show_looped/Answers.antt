@@ -27,7 +27,7 @@ returns-clause-meets g c =
     let begins = subst (λ (b : Bool). BeginsProbe (record { tested = Server; expected = asked.expected; timeouts = b })
     (bytes_by_turn c.args.job.case.now (Some asked.key)) (request_value asked.request) bounds.budget asking)
     c.requires.timeouts c.in_ok-asking.ensures.begins in
-    let heard = λ (first now : LineOutput g.row.W.Denot) (taken : List (ℕ × List ℕ)). HasWrittenTaken taken
+    let heard = λ (first now : LineOutput g.row.W.Denot) (taken : List (ℕ × List ℕ)). HasWrittenTaken first.at now.at taken
     first.writer.ghost_name now.writer.ghost_name (watched g.W.Write.contents first.writer.now now.writer.now) in
     let did = g.N.Stream.NonBlocking.did in
     let does = g.N.Network.did in
@@ -53,7 +53,7 @@ returns-clause-shown g c =
     let begins = subst (λ (b : Bool). BeginsProbe (record { tested = Server; expected = asked.expected; timeouts = b })
     (bytes_by_turn c.args.job.case.now (Some asked.key)) (request_value asked.request) bounds.budget asking)
     c.requires.timeouts c.in_ok-asking.ensures.begins in
-    let heard = λ (first now : LineOutput g.row.W.Denot) (taken : List (ℕ × List ℕ)). HasWrittenTaken taken
+    let heard = λ (first now : LineOutput g.row.W.Denot) (taken : List (ℕ × List ℕ)). HasWrittenTaken first.at now.at taken
     first.writer.ghost_name now.writer.ghost_name (watched g.W.Write.contents first.writer.now now.writer.now) in
     let did = g.N.Stream.NonBlocking.did in
     let does = g.N.Network.did in
@@ -67,15 +67,16 @@ returns-clause-shown g c =
     (λ (now : ShownValue). shown_wants now) ShownGives did does l from to old new name start met) c.limits.ensures
     c.in_ok-met.ensures.shows in
     let works = subst (λ (w : Watched g.row.W.Denot). has_failed w ≡ false) (sym c.new-sink.ensures.writer) c.requires.works in
-    let fresh = none_taken g.W.Write.contents c.new-sink.result.writer.now c.new-sink.result.writer.ghost_name works in
+    let fresh = none_taken g.W.Write.contents c.new-sink.result.at c.new-sink.result.writer.now
+    c.new-sink.result.writer.ghost_name works in
     let took = took_so heard c.new-sink.result c.run_at.new.sink did does (limits_of_server server) from to old new name
     start met fresh shows in
     let same = c.end_shown.ensures.borrow ∙ (took.put.name ∙ c.new-sink.ensures.borrow) in
     let left : c.end_shown.new.sink.writer.now ≡ c.writer-2-1.given.0 = search rules in
     let wrote = wrote_rest g.W.Write.contents c.args.writer.now c.new-sink.result.writer.now
     c.run_at.new.sink.writer.now c.end_shown.new.sink.writer.now c.writer-2-1.given.0 c.new-sink.result.writer.ghost_name
-    c.run_at.new.sink.writer.ghost_name took.taken (untaken_lines met) c.new-sink.ensures.writer (sym left) took.put
-    c.in_ok-meeting.ensures.last in
+    c.run_at.new.sink.writer.ghost_name c.new-sink.result.at c.run_at.new.sink.at took.taken (untaken_lines met)
+    c.new-sink.ensures.at c.new-sink.ensures.writer (sym left) took.put c.in_ok-meeting.ensures.last in
     shows_meeting did does (limits_of_server server) from to old new name start met c.in_ok-meeting.meeting
     (watched g.W.Write.contents c.args.writer.now c.writer-2-1.given.0) took.taken took.shows
     c.in_ok-meeting.ensures.meeting wrote.0 c.args.showing c.new.ensures.showing wrote.1
@@ -90,7 +91,7 @@ returns-clause-why g c =
     let begins = subst (λ (b : Bool). BeginsProbe (record { tested = Server; expected = asked.expected; timeouts = b })
     (bytes_by_turn c.args.job.case.now (Some asked.key)) (request_value asked.request) bounds.budget asking)
     c.requires.timeouts c.in_ok-asking.ensures.begins in
-    let heard = λ (first now : LineOutput g.row.W.Denot) (taken : List (ℕ × List ℕ)). HasWrittenTaken taken
+    let heard = λ (first now : LineOutput g.row.W.Denot) (taken : List (ℕ × List ℕ)). HasWrittenTaken first.at now.at taken
     first.writer.ghost_name now.writer.ghost_name (watched g.W.Write.contents first.writer.now now.writer.now) in
     let did = g.N.Stream.NonBlocking.did in
     let does = g.N.Network.did in
@@ -104,15 +105,16 @@ returns-clause-why g c =
     (λ (now : ShownValue). shown_wants now) ShownGives did does l from to old new name start met) c.limits.ensures
     c.in_ok-met.ensures.shows in
     let works = subst (λ (w : Watched g.row.W.Denot). has_failed w ≡ false) (sym c.new-sink.ensures.writer) c.requires.works in
-    let fresh = none_taken g.W.Write.contents c.new-sink.result.writer.now c.new-sink.result.writer.ghost_name works in
+    let fresh = none_taken g.W.Write.contents c.new-sink.result.at c.new-sink.result.writer.now
+    c.new-sink.result.writer.ghost_name works in
     let took = took_so heard c.new-sink.result c.run_at.new.sink did does (limits_of_server server) from to old new name
     start met fresh shows in
     let same = c.end_shown.ensures.borrow ∙ (took.put.name ∙ c.new-sink.ensures.borrow) in
     let left : c.end_shown.new.sink.writer.now ≡ c.writer-2-1.given.0 = search rules in
     let wrote = wrote_rest g.W.Write.contents c.args.writer.now c.new-sink.result.writer.now
     c.run_at.new.sink.writer.now c.end_shown.new.sink.writer.now c.writer-2-1.given.0 c.new-sink.result.writer.ghost_name
-    c.run_at.new.sink.writer.ghost_name took.taken (untaken_lines met) c.new-sink.ensures.writer (sym left) took.put
-    c.in_ok-meeting.ensures.last in
+    c.run_at.new.sink.writer.ghost_name c.new-sink.result.at c.run_at.new.sink.at took.taken (untaken_lines met)
+    c.new-sink.ensures.at c.new-sink.ensures.writer (sym left) took.put c.in_ok-meeting.ensures.last in
     shows_because server asked.key c.args.job.case.now start asking c.new.ensures.stage begins did does from to old new
     name met c.in_ok-meeting.meeting (watched g.W.Write.contents c.args.writer.now c.writer-2-1.given.0) took.taken
     took.shows c.in_ok-meeting.ensures.meeting wrote.0

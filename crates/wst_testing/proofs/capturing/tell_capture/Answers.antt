@@ -9,7 +9,7 @@ use Rattle.wst_testing.proofs.capturing.tell_capture.Goals as goal
 
 pub returns : goal.returns
 returns g c =
-    let capture = run_capture c.args.rules.tested c.args.rules.key c.args.transcript in
+    let capture = run_capture c.args.tested c.args.key c.args.transcript in
     let text : c.as_slice.result.now ≡ written_capture2 capture = search rules in (
       c.in_ok-verdict.verdict,
       c.in_ok-verdict.ensures,

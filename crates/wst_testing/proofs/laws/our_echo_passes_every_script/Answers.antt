@@ -12,7 +12,6 @@ use Rattle.ws_wire.specs.declared.role.Role.{Role}
 use Rattle.wst_testing.specs.declared.testing.RunRules.{RunRules}
 use Rattle.wst_testing.specs.Outcomes.{is_pass, passes}
 use Rattle.wst_testing.specs.Servers.{MeetsInMemory}
-use Rattle.wst_testing.specs.Sweeps.{case_rules}
 use Rattle.wst_testing.specs.Testing.{IsOutcomeOf}
 use Rattle.wst_testing.specs.declared.case_server.MemoryPeer.TheVariants.{Own}
 use Rattle.wst_sockets.specs.declared.meeting.Meeting.{Meeting}
@@ -39,5 +38,5 @@ met_passes law rules case (meeting.NoConnection why) told echo is so = absurd is
 
 pub returns : goal.returns
 returns c = λ rules script echo (short, tested).
-    met_passes c.one_verdict.ensures (case_rules rules) script.case tested.meeting script.outcome echo tested.met
+    met_passes c.one_verdict.ensures rules.run script.case tested.meeting script.outcome echo tested.met
     tested.told

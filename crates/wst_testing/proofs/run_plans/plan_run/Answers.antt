@@ -67,9 +67,9 @@ returns-in_default-wait_given c =
     let offered : (c.in-Some.protocols ≡ protocols_given options.protocols) × HasOffers options = search rules in
     let added : (c.in-Some-2.headers ≡ headers_in (header_words options)) × HasHeaders options = search rules in
     let fits : FitsRole options = search rules in
-    wait_refused options c.wait_refusal.result (fits, offered.1, added.1)
+    wait_refused options c.limit_refusal-in_default-wait_given.result (fits, offered.1, added.1)
     (has_timeout _ options.timeout _ c.in-Some-run_timeout_given.ensures) c.in_default-wait_given.ensures
-    c.wait_refusal.ensures
+    c.limit_refusal-in_default-wait_given.ensures
 
 pub returns-in_default-deadline_given : goal.returns-in_default-deadline_given
 returns-in_default-deadline_given c =
@@ -77,10 +77,10 @@ returns-in_default-deadline_given c =
     let offered : (c.in-Some.protocols ≡ protocols_given options.protocols) × HasOffers options = search rules in
     let added : (c.in-Some-2.headers ≡ headers_in (header_words options)) × HasHeaders options = search rules in
     let fits : FitsRole options = search rules in
-    deadline_refused options c.deadline_refusal.result (fits, offered.1, added.1)
+    deadline_refused options c.limit_refusal-in_default-deadline_given.result (fits, offered.1, added.1)
     (has_timeout _ options.timeout _ c.in-Some-run_timeout_given.ensures)
     (has_wait options.wait _ c.in-Some-wait_given.ensures) c.in_default-deadline_given.ensures
-    c.deadline_refusal.ensures
+    c.limit_refusal-in_default-deadline_given.ensures
 
 pub returns-in_err-named : goal.returns-in_err-named
 returns-in_err-named c =

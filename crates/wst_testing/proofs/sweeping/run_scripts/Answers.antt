@@ -10,7 +10,7 @@ returns g c =
     let new = c.run_cases-ended.new.sink in
     let writer = c.writer-1.given.0 in
     let written : writer ≡ new.writer.now = search rules in
-    scripts_ended (g.S.CaseServer.meets c.args.server.now c.args.rules.key) c.args.rules _ _ c.of-runs.result _ new
+    scripts_ended (g.S.CaseServer.meets c.args.server.now c.args.rules.run.key) c.args.rules _ _ c.of-runs.result _ new
     c.run_cases-ended.result new.count new.tally c.counted.result (watched g.W.Write.contents c.args.writer.now writer)
     (λ came next (kept, so). subst (λ w. HasToldScripts c.args.rules came new.count new.tally
     (watched g.W.Write.contents c.args.writer.now w)) (sym written) so)

@@ -18,7 +18,7 @@ pub run_cases-ended-requires-clause-fresh : goal.run_cases-ended-requires-clause
 run_cases-ended-requires-clause-fresh g c = (
   refl,
   refl,
-  reported_nothing c.args.rules c.args.report.now c.of.result.left c.new-score.result c.of.result
+  reported_nothing c.args.run.rules c.args.report.now c.of.result.left c.new-score.result c.of.result
       (g.W.Write.contents (inner_of c.args.writer.now)) (has_failed c.args.writer.now)
       (watched g.F.Write.contents c.args.faults.now c.args.faults.now) c.new-score.ensures
       (subst (λ (n : ℕ). IsHintState n [] c.of.result) (sym c.of.ensures.place) c.of.ensures.starts) c.requires.works
@@ -29,27 +29,27 @@ run_cases-ended-requires-clause-fresh g c = (
 pub returns-in-Ok-clause-runs : goal.returns-in-Ok-clause-runs
 returns-in-Ok-clause-runs g c =
     let runs = c.in-Ok.ensures.runs in
-    let place = hint_place (length c.args.cases.now) in
-    let all : c.of-listed.result.rest ≡ c.args.cases.now = search rules in
+    let place = hint_place (length c.args.run.cases.now) in
+    let all : c.of-listed.result.rest ≡ c.args.run.cases.now = search rules in
     let (kept, same, so, still) = runs.told in
     let new = c.run_cases-ended.new.sink in
     let writer = c.writer-1.given.0 in
     let faults = c.faults-1.given.0 in
     let written : writer ≡ new.writer.now = search rules in
     let noted : faults ≡ new.faults.now = search rules in
-    let first = subst (λ f. HasReported c.args.rules c.args.report.now place runs.came None new.score.now new.missed new.hint
+    let first = subst (λ f. HasReported c.args.run.rules c.args.report.now place runs.came None new.score.now new.missed new.hint
     (watched g.W.Write.contents c.args.writer.now new.writer.now) (watched g.F.Write.contents c.args.faults.now f))
-    (sym noted) (subst (λ (n : ℕ). HasReported c.args.rules c.args.report.now n runs.came None new.score.now new.missed
+    (sym noted) (subst (λ (n : ℕ). HasReported c.args.run.rules c.args.report.now n runs.came None new.score.now new.missed
     new.hint (watched g.W.Write.contents c.args.writer.now new.writer.now)
     (watched g.F.Write.contents c.args.faults.now new.faults.now)) c.of.ensures.place so) in
-    let both = subst (λ w. HasReported c.args.rules c.args.report.now place runs.came None new.score.now new.missed new.hint
+    let both = subst (λ w. HasReported c.args.run.rules c.args.report.now place runs.came None new.score.now new.missed new.hint
     (watched g.W.Write.contents c.args.writer.now w) (watched g.F.Write.contents c.args.faults.now faults))
     (sym written) first in
     let scored : c.score-2-1.given.0 ≡ new.score.now = search rules in
     let ended = subst (λ (t : Score). EndsReporting c.args.report.now t c.tell_end.result
     (c.tell_end.new.writer ≡ writer) (c.tell_end.new.faults ≡ faults) (watched g.W.Write.contents writer c.tell_end.new.writer)
     (watched g.F.Write.contents faults c.tell_end.new.faults)) scored c.tell_end.ensures.is in
-    run_told (g.S.CaseServer.meets c.args.server.now c.args.rules.key) c.args.rules c.args.report.now c.args.cases.now c.args.tested.now
+    run_told (g.S.CaseServer.meets c.args.server.now c.args.run.rules.key) c.args.run.rules c.args.report.now c.args.run.cases.now c.args.run.tested.now
     runs.came new.score.now new.missed new.hint (g.W.Write.contents (inner_of c.args.writer.now))
     (g.W.Write.contents (inner_of writer)) (g.W.Write.contents (inner_of c.tell_end.new.writer)) (has_failed writer)
     (has_failed c.tell_end.new.writer) (has_failed faults) (has_failed c.tell_end.new.faults)
@@ -63,15 +63,15 @@ returns-in-Ok-clause-runs g c =
 pub stopped_by-requires : goal.stopped_by-requires
 stopped_by-requires g c =
     let new = c.run_cases-ended.new.sink in
-    let place = hint_place (length c.args.cases.now) in
+    let place = hint_place (length c.args.run.cases.now) in
     let writer = c.writer-1.given.0 in
     let written : writer ≡ new.writer.now = search rules in
-    run_works (g.S.CaseServer.meets c.args.server.now c.args.rules.key) c.args.rules c.args.report.now c.args.cases.now c.args.tested.now
+    run_works (g.S.CaseServer.meets c.args.server.now c.args.run.rules.key) c.args.run.rules c.args.report.now c.args.run.cases.now c.args.run.tested.now
     _ _ c.of-listed.result _ new new.score.now c.in-Err.why (watched g.W.Write.contents c.args.writer.now writer)
     (watched g.F.Write.contents c.args.faults.now new.faults.now)
-    (λ came why (so, still). subst (λ w. StopsReport c.args.rules c.args.report.now place came new.score.now why
+    (λ came why (so, still). subst (λ w. StopsReport c.args.run.rules c.args.report.now place came new.score.now why
     (watched g.W.Write.contents c.args.writer.now w) (watched g.F.Write.contents c.args.faults.now new.faults.now))
-    (sym written) (subst (λ (n : ℕ). StopsReport c.args.rules c.args.report.now n came new.score.now why
+    (sym written) (subst (λ (n : ℕ). StopsReport c.args.run.rules c.args.report.now n came new.score.now why
     (watched g.W.Write.contents c.args.writer.now new.writer.now)
     (watched g.F.Write.contents c.args.faults.now new.faults.now)) c.of.ensures.place so))
     c.in-Err.ensures.runs
@@ -79,18 +79,18 @@ stopped_by-requires g c =
 pub returns-clause-runs : goal.returns-clause-runs
 returns-clause-runs g c =
     let new = c.run_cases-ended.new.sink in
-    let place = hint_place (length c.args.cases.now) in
-    let all : c.of-listed.result.rest ≡ c.args.cases.now = search rules in
+    let place = hint_place (length c.args.run.cases.now) in
+    let all : c.of-listed.result.rest ≡ c.args.run.cases.now = search rules in
     let writer = c.writer-1.given.0 in
     let faults = c.faults-1.given.0 in
     let written : writer ≡ new.writer.now = search rules in
     let noted : faults ≡ new.faults.now = search rules in
     let scored : c.score-2-1.given.0 ≡ new.score.now = search rules in
-    let ended = subst (λ (t : Score). IsEndOfStop c.args.tested.now c.args.report.now t c.in-Err.why c.stopped_by.result
+    let ended = subst (λ (t : Score). IsEndOfStop c.args.run.tested.now c.args.report.now t c.in-Err.why c.stopped_by.result
     (c.stopped_by.new.writer ≡ writer) (c.stopped_by.new.faults ≡ faults)
     (watched g.W.Write.contents writer c.stopped_by.new.writer)
     (watched g.F.Write.contents faults c.stopped_by.new.faults)) scored c.stopped_by.ensures.is in
-    run_ended (g.S.CaseServer.meets c.args.server.now c.args.rules.key) c.args.rules c.args.report.now c.args.cases.now c.args.tested.now
+    run_ended (g.S.CaseServer.meets c.args.server.now c.args.run.rules.key) c.args.run.rules c.args.report.now c.args.run.cases.now c.args.run.tested.now
     _ _ _ c.of-listed.result _ new new.score.now (g.W.Write.contents (inner_of c.args.writer.now))
     (g.W.Write.contents (inner_of writer)) (g.W.Write.contents (inner_of c.stopped_by.new.writer)) (has_failed writer)
     (has_failed c.stopped_by.new.writer) (has_failed faults) (has_failed c.stopped_by.new.faults)
@@ -101,21 +101,21 @@ returns-clause-runs g c =
       new.score.now,
       new.missed,
       new.hint,
-      subst (λ w. HasReported c.args.rules c.args.report.now place came next new.score.now new.missed new.hint
+      subst (λ w. HasReported c.args.run.rules c.args.report.now place came next new.score.now new.missed new.hint
           (watched g.W.Write.contents c.args.writer.now w) (watched g.F.Write.contents c.args.faults.now faults))
           (sym written)
-          (subst (λ f. HasReported c.args.rules c.args.report.now place came next new.score.now new.missed new.hint
+          (subst (λ f. HasReported c.args.run.rules c.args.report.now place came next new.score.now new.missed new.hint
           (watched g.W.Write.contents c.args.writer.now new.writer.now)
           (watched g.F.Write.contents c.args.faults.now f)) (sym noted)
-          (subst (λ (n : ℕ). HasReported c.args.rules c.args.report.now n came next new.score.now new.missed new.hint
+          (subst (λ (n : ℕ). HasReported c.args.run.rules c.args.report.now n came next new.score.now new.missed new.hint
           (watched g.W.Write.contents c.args.writer.now new.writer.now)
           (watched g.F.Write.contents c.args.faults.now new.faults.now)) c.of.ensures.place so)),
     ))
-    (λ came why (so, still). subst (λ w. StopsReport c.args.rules c.args.report.now place came new.score.now why
+    (λ came why (so, still). subst (λ w. StopsReport c.args.run.rules c.args.report.now place came new.score.now why
     (watched g.W.Write.contents c.args.writer.now w) (watched g.F.Write.contents c.args.faults.now faults))
-    (sym written) (subst (λ f. StopsReport c.args.rules c.args.report.now place came new.score.now why
+    (sym written) (subst (λ f. StopsReport c.args.run.rules c.args.report.now place came new.score.now why
     (watched g.W.Write.contents c.args.writer.now new.writer.now) (watched g.F.Write.contents c.args.faults.now f))
-    (sym noted) (subst (λ (n : ℕ). StopsReport c.args.rules c.args.report.now n came new.score.now why
+    (sym noted) (subst (λ (n : ℕ). StopsReport c.args.run.rules c.args.report.now n came new.score.now why
     (watched g.W.Write.contents c.args.writer.now new.writer.now)
     (watched g.F.Write.contents c.args.faults.now new.faults.now)) c.of.ensures.place so)))
     (λ stays. (ap (λ w. has_failed w) (sym stays), ap (λ w. g.W.Write.contents (inner_of w)) (sym stays)))
@@ -127,7 +127,7 @@ returns-clause-still g c =
     let new = c.run_cases-ended.new.sink in
     let noted : c.faults-1.given.0 ≡ new.faults.now = search rules in
     let before = subst (λ f. StaysFailed c.args.faults.now f) (sym noted)
-    (holds_at_the_end (λ (x : Case). x) (g.S.CaseServer.meets c.args.server.now c.args.rules.key) GaveOfList
+    (holds_at_the_end (λ (x : Case). x) (g.S.CaseServer.meets c.args.server.now c.args.run.rules.key) GaveOfList
     (λ start now cases. GaveAllOfList start cases) _ _ c.of-listed.result _ new (Err c.in-Err.why)
     (StaysFailed c.args.faults.now new.faults.now) (λ came next (kept, same, so, still). still)
     (λ came why (so, still). still) c.in-Err.ensures.runs) in

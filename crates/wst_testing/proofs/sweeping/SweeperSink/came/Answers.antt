@@ -2,7 +2,7 @@
 use Rattle.std.proofs.Common.{◌≡◌, ◌∙◌, ◌||◌, ℕ, Bool, List, Option, ap, false, subst, sym, true}
 use Rattle.std.specs.Io.KnownBytes.{Appends}
 use Rattle.ws_frame.specs.Watching.{AppendsFront, has_failed, inner_of}
-use Rattle.wst_testing.specs.Sweeps.{case_rules, script_line, swept}
+use Rattle.wst_testing.specs.Sweeps.{script_line, swept}
 use Rattle.wst_testing.specs.Testing.{IsOutcomeOf}
 use Rattle.wst_testing.specs.declared.sweeping.SweepRules.{SweepRules}
 use Rattle.wst_testing.specs.declared.testing.RunRules.{RunRules}
@@ -31,7 +31,7 @@ returns-in-Some-clause-heard g c = λ start told (kept, so).
     let old = c.args.self.now in
     let outcome = c.in_ok-outcome.outcome in
     let is = subst (λ (r : RunRules). IsOutcomeOf r c.args.meeting outcome)
-    (c.case_rules.ensures ∙ ap (λ (r : SweepRules). case_rules r) kept) c.in_ok-outcome.ensures in
+    (ap (λ (r : SweepRules). r.run) kept) c.in_ok-outcome.ensures in
     script_misses start.rules told c.args.run.now c.args.meeting outcome old.count old.tally
     (g.W.Write.contents (inner_of start.writer.now)) (g.W.Write.contents (inner_of old.writer.now))
     (g.W.Write.contents (inner_of old.writer.now)) (has_failed old.writer.now) (has_failed old.writer.now) so is
@@ -42,7 +42,7 @@ returns-in-Err-clause-heard g c = λ start told (kept, so).
     let old = c.args.self.now in
     let outcome = c.in_ok-outcome.outcome in
     let is = subst (λ (r : RunRules). IsOutcomeOf r c.args.meeting outcome)
-    (c.case_rules.ensures ∙ ap (λ (r : SweepRules). case_rules r) kept) c.in_ok-outcome.ensures in
+    (ap (λ (r : SweepRules). r.run) kept) c.in_ok-outcome.ensures in
     let next = swept c.args.run.now.places c.args.run.now.case outcome in
     let line = subst (λ (r : SweepRules). script_line r next ≡ c.as_bytes.result.now) kept
     (sym (c.as_bytes.ensures.value ∙ c.in_ok-line.ensures)) in
@@ -59,7 +59,7 @@ returns-then-is_enough-clause-heard g c = λ start told (kept, so).
     let old = c.args.self.now in
     let outcome = c.in_ok-outcome.outcome in
     let is = subst (λ (r : RunRules). IsOutcomeOf r c.args.meeting outcome)
-    (c.case_rules.ensures ∙ ap (λ (r : SweepRules). case_rules r) kept) c.in_ok-outcome.ensures in
+    (ap (λ (r : SweepRules). r.run) kept) c.in_ok-outcome.ensures in
     let next = swept c.args.run.now.places c.args.run.now.case outcome in
     let line = subst (λ (r : SweepRules). script_line r next ≡ c.as_bytes.result.now) kept
     (sym (c.as_bytes.ensures.value ∙ c.in_ok-line.ensures)) in
@@ -68,7 +68,7 @@ returns-then-is_enough-clause-heard g c = λ start told (kept, so).
     (g.W.Write.contents (inner_of c.write_whole.new.writer)) (has_failed old.writer.now)
     (has_failed c.write_whole.new.writer) so is c.with-self.result c.one_more-self.result c.with-self.ensures
     c.one_more-self.ensures
-    (subst (λ (r : SweepRules). is_enough r.max_fail c.with-self.result.fail ≡ true) kept
+    (subst (λ (r : SweepRules). is_enough r.run.max_fail c.with-self.result.fail ≡ true) kept
     (sym c.is_enough.ensures ∙ c.if-is_enough.true))
     (sym c.missed_by.ensures ∙ c.in-None.is)
     (subst (λ (l : List ℕ). Appends (g.W.Write.contents (inner_of old.writer.now))
@@ -80,7 +80,7 @@ returns-clause-heard g c = λ start told (kept, so).
     let old = c.args.self.now in
     let outcome = c.in_ok-outcome.outcome in
     let is = subst (λ (r : RunRules). IsOutcomeOf r c.args.meeting outcome)
-    (c.case_rules.ensures ∙ ap (λ (r : SweepRules). case_rules r) kept) c.in_ok-outcome.ensures in
+    (ap (λ (r : SweepRules). r.run) kept) c.in_ok-outcome.ensures in
     let next = swept c.args.run.now.places c.args.run.now.case outcome in
     let line = subst (λ (r : SweepRules). script_line r next ≡ c.as_bytes.result.now) kept
     (sym (c.as_bytes.ensures.value ∙ c.in_ok-line.ensures)) in (
@@ -90,7 +90,7 @@ returns-clause-heard g c = λ start told (kept, so).
           (g.W.Write.contents (inner_of c.write_whole.new.writer)) (has_failed old.writer.now)
           (has_failed c.write_whole.new.writer) so is c.with-self.result c.one_more-self.result c.with-self.ensures
           c.one_more-self.ensures
-          (subst (λ (r : SweepRules). is_enough r.max_fail c.with-self.result.fail ≡ false) kept
+          (subst (λ (r : SweepRules). is_enough r.run.max_fail c.with-self.result.fail ≡ false) kept
           (sym c.is_enough.ensures ∙ c.if-is_enough.false))
           (sym c.missed_by.ensures ∙ c.in-None.is)
           (subst (λ (l : List ℕ). Appends (g.W.Write.contents (inner_of old.writer.now))
