@@ -235,7 +235,8 @@ impl SystemListener {
     }
 }
 
-/// A client that went away while it waited is passed over, and a call that a signal interrupts is made again.
+/// A client is taken only if a descriptor is left beside it, for a connection that is made because of it. One that went
+/// away while it waited is passed over, and a call that a signal interrupts is made again.
 impl Listener for SystemListener {
     ghost use Rattle.std.specs.Prelude.{⊤};
 
@@ -246,6 +247,10 @@ impl Listener for SystemListener {
     ghost did = { λ old new deeds. ⊤ };
 
     fn try_accept(&mut self, at: usize) -> TryAccept<SystemStream, ConnectMiss> {
+        let _left = match self.registry.try_clone() {
+            Ok(left) => left,
+            Err(error) => return TryAccept::Failed(ConnectMiss::NotTaken(error.kind())),
+        };
         for _ in 0..u64::MAX {
             match self.listener.accept() {
                 Ok((stream, _)) => {
