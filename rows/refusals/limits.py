@@ -9,7 +9,7 @@ from shim import Ended
 # What docs/proof/ASSUMPTIONS.md says that the program needs, in bytes: of stack, and of address space for the commands
 # over files and in memory.
 STACK = 512 * 1024
-SPACE = 4096 * 1024
+SPACE = 4608 * 1024
 SECONDS = 60
 
 

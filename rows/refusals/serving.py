@@ -36,14 +36,20 @@ class Served:
         return self == Served(0, LINES, [SERVED, SERVED], b"")
 
     def place(self):
-        """At which of the places this run lacked memory; None where it is not what is wanted then."""
+        """At which of the places this run lacked memory; None where it is not what is wanted then. Where the network
+        lacks it, the address can't be listened at."""
+        if (self.status, self.lines, self.faults) == (3, [], b"not listening: failed\n"):
+            return 0
         if self.status == 3 and self.faults == b"no memory\n":
             return self.place_of_no_memory()
         stopped = [number for number in (1, 2) if self == stopped_at(number, self.got)]
         return 2 * stopped[0] - 1 if stopped else None
 
     def place_of_no_memory(self):
-        """Each line before that for which there was no memory stands, and none after it; each client got all."""
+        """Each line before that for which there was no memory stands, and none after it; each client got all. Where it
+        lacks for what serves all of them, it is told that the address is listened at, and nobody is served."""
+        if (self.lines, self.got) == (LINES[:1], [b""]):
+            return 0
         count = len(self.lines)
         whole = self.lines == LINES[:count] and count < len(LINES) and self.got == [SERVED] * count
         return 2 * count if whole else None
@@ -95,15 +101,15 @@ def read_lines(output, address):
 
 
 def answer_at(address):
-    """What a client gets that sends all at once and waits for the end."""
+    """What a client gets that sends all at once and waits for the end. It gets nothing where nobody listens any more."""
     got = b""
-    with socket.create_connection(address, SECONDS) as client:
-        try:
+    try:
+        with socket.create_connection(address, SECONDS) as client:
             client.sendall(SENT)
             while more := client.recv(65536):
                 got += more
-        except ConnectionResetError:
-            pass
+    except (ConnectionRefusedError, ConnectionResetError, BrokenPipeError):
+        pass
     return got
 
 
