@@ -233,12 +233,13 @@ def no_client_comes_in_time():
 
 
 def descriptors_that_run_out():
-    """It is told once, and whoever waits is taken when the other one has ended. Meanwhile less than a tenth is used."""
+    """A client is taken if one more is left. It is told once, and whoever waits is taken when the other one has ended.
+    Meanwhile less than a tenth is used."""
     before = resource.getrusage(resource.RUSAGE_CHILDREN)
     accepting = Accepting(3, 2, "-", 1, 100, 1)
     with accepting.client() as first:
         assert got(first, 1) == counted(1)
-        most = 1 + max(int(name) for name in os.listdir(f"/proc/{accepting.run.pid}/fd"))
+        most = 2 + max(int(name) for name in os.listdir(f"/proc/{accepting.run.pid}/fd"))
         resource.prlimit(accepting.run.pid, resource.RLIMIT_NOFILE, (most, most))
         with accepting.client() as second, accepting.client():
             threading.Event().wait(1)

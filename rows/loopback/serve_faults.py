@@ -1,5 +1,7 @@
 """Clients of `wst serve` that go away, or send on when their connection has ended."""
 
+import select
+import signal
 import socket
 import threading
 import time
@@ -189,6 +191,70 @@ def silent_for_too_long():
         goes_on(server, 2)
 
 
+def stopped_again_and_again():
+    """A server that is stopped and goes on each 10 ms waits no longer for a silent client, nor lets a connection last
+    longer."""
+    for option in ("--timeout=1", "--deadline=1"):
+        server = Server(2, option)
+        client = server.client()
+        client.send(REQUEST)
+        assert client.get(len(RESPONSE)) == RESPONSE
+        began = time.monotonic()
+        client.stream.settimeout(0.01)
+        ended = False
+        while not ended and time.monotonic() - began < SECONDS:
+            server.process.send_signal(signal.SIGSTOP)
+            server.process.send_signal(signal.SIGCONT)
+            try:
+                ended = client.stream.recv(1) == b""
+            except TimeoutError:
+                pass
+        taken = time.monotonic() - began
+        assert ended and 0.8 < taken < 2, taken
+        assert server.line() == "1 stopped"
+        client.close()
+        goes_on(server, 2)
+
+
+def lasts_too_long():
+    """With --deadline a connection ends in time, whatever comes, and is told as stopped."""
+    server = Server(2, "--deadline", "1")
+    client = server.client()
+    client.send(REQUEST)
+    assert client.get(len(RESPONSE)) == RESPONSE
+    began = time.monotonic()
+    try:
+        while time.monotonic() - began < SECONDS:
+            client.send(HELLO)
+            if client.get(len(HELLO_BACK)) != HELLO_BACK:
+                break
+            time.sleep(0.05)
+    except OSError:
+        pass
+    taken = time.monotonic() - began
+    assert 0.8 < taken < 2, taken
+    assert server.line() == "1 stopped"
+    client.close()
+    goes_on(server, 2)
+
+
+def a_head_that_lasts_too_long():
+    """And so before the head is whole."""
+    server = Server(2, "--deadline", "1")
+    client = server.client()
+    began = time.monotonic()
+    for byte in REQUEST:
+        client.send(bytes([byte]))
+        if select.select([client.stream], [], [], 0.05)[0]:
+            break
+    assert client.rest() == b""
+    taken = time.monotonic() - began
+    assert 0.8 < taken < 2, taken
+    assert server.line() == "1 stopped"
+    client.close()
+    goes_on(server, 2)
+
+
 def slow_but_not_silent():
     """A client that sends a byte each half second is none that is silent for a second."""
     server = Server(1, "--timeout", "1")
@@ -227,6 +293,9 @@ TESTS = [
     stays_and_is_silent,
     ends_soon,
     silent_for_too_long,
+    stopped_again_and_again,
+    lasts_too_long,
+    a_head_that_lasts_too_long,
     slow_but_not_silent,
     takes_nothing_for_too_long,
 ]

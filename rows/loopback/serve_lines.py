@@ -99,6 +99,13 @@ def limits_of_time_that_are_none():
         assert run("serve", "--timeout", seconds, "--limit", "0", "127.0.0.1:1", "1") == told, seconds
     for seconds in ("1", "3600"):
         assert run("serve", "--timeout", seconds, "--limit", "0", "127.0.0.1:1", "1") == (2, b"", b"bad limits\n")
+    for seconds in ("", "0", "01", "86401", "none", "-1", "1.5"):
+        told = run("serve", f"--deadline={seconds}", "--limit", "0", "127.0.0.1:1", "1")
+        assert told == (2, b"", b"bad timeout\n  a whole number of seconds, 1 to 86400: --deadline 60\n"), seconds
+    told = (2, b"", b"bad timeout\n  seconds without a unit: --deadline 60\n")
+    assert run("serve", "--deadline", "1m", "--limit", "0", "127.0.0.1:1", "1") == told
+    for seconds in ("1", "86400"):
+        assert run("serve", "--deadline", seconds, "--limit", "0", "127.0.0.1:1", "1") == (2, b"", b"bad limits\n")
 
 
 def subprotocols():

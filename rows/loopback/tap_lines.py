@@ -225,29 +225,40 @@ def half_closes():
 
 def resets():
     """A reset of either end, before anything is sent, in a head, behind the heads, in a frame and behind a half-close of the
-    other end: both connections are closed."""
+    other end: both connections are closed. One that the server resets at once may count as not made."""
     tap = Tap(10)
     for who in (0, 1):
         for state in range(5):
             ends = tap.pair() if state < 2 else tap.open_pair()
-            client, server = ends
-            if state == 1:
-                client.send(REQUEST[:9])
-                assert server.get(9) == REQUEST[:9]
-            if state == 3:
-                client.send(HELLO[:5])
-                assert server.get(5) == HELLO[:5]
-            if state == 4:
-                ends[1 - who].half_close()
-                assert ends[who].rest() == b""
-            ends[who].reset()
+            reset_in(state, ends, who)
             try:
                 assert ends[1 - who].rest() == b"", (who, state)
             except ConnectionResetError:
                 pass
             ends[1 - who].close()
-            tap.tells("end broken")
+            assert tap.line() in ends_of_reset(tap.number, state, who)
     tap.ends()
+
+
+def ends_of_reset(number, state, who):
+    """What may be told of the connection of this number of which an end was reset in this state."""
+    words = ["end broken", "no connection"] if (state, who) == (0, 1) else ["end broken"]
+    return [f"{number} {word}" for word in words]
+
+
+def reset_in(state, ends, who):
+    """One of the ends is reset, in this state of their connection."""
+    client, server = ends
+    if state == 1:
+        client.send(REQUEST[:9])
+        assert server.get(9) == REQUEST[:9]
+    if state == 3:
+        client.send(HELLO[:5])
+        assert server.get(5) == HELLO[:5]
+    if state == 4:
+        ends[1 - who].half_close()
+        assert ends[who].rest() == b""
+    ends[who].reset()
 
 
 def a_head_of_9000_bytes():
@@ -476,7 +487,10 @@ def words_that_are_no_addresses():
         port = taken.getsockname()[1]
         assert run("tap", f"127.0.0.1:{port}", "a:1", "1") == (3, b"", b"not listening: address in use\n")
     assert run("tap", "no.such.host.invalid:1", "a:1", "1") == (3, b"", b"not listening: no such host\n  HOST:PORT to listen at, up to 65535: localhost:9001\n")
-    assert run("tap", "127.0.0.1:0", "a:1")[0] == 2
+    for word in ("0", "1001", "x", ""):
+        told = run("tap", f"--at-once={word}", "127.0.0.1:0", "a:1")
+        assert told == (2, b"", b"bad at-once\n  a whole number, 1 to 1000: --at-once 16\n"), word
+        assert run("tap", "--at-once", word, "127.0.0.1:0", "a", "1") == (2, b"", f"bad address\n  {no_target}\n".encode()), word
 
 
 def a_server_and_a_tester_of_ours():
