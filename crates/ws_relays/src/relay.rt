@@ -13,7 +13,7 @@ use std::alloc::Global;
 use std::io::Write;
 use ws_base::NoMemory;
 use ws_frame::{ShowFault, Watched, WriteFault};
-use ws_tap::{Tap, TapEnd, Tapped};
+use ws_tap::{Portion, Tap, TapEnd, Tapped};
 use ws_wire::Role;
 
 /// How much is asked of an end: so many bytes are to be written to it, at most so many are to be read from it, its
@@ -142,7 +142,8 @@ impl Relay {
 fn new_tap(alloc: Global, tapped: Tapped) -> Result<Box<Tap>, NoMemory>
     ensures { IfOk result (λ made. HasTapped tapped [] made.value []) }
 {
-    let tap = Box::new(alloc, Tap::new(tapped))?;
+    let tap = Tap::new(alloc, tapped)?;
+    let tap = Box::new(alloc, tap)?;
     Ok(tap)
 }
 
@@ -179,7 +180,7 @@ fn tell<W: Write>(
     ensures told { TellsHappened role tap.old tap.new happened (watched W.contents output.old output.new) result }
 {
     match happened {
-        Happened::Came(bytes) => tap.came(alloc, role, output, bytes.as_slice())?,
+        Happened::Came(bytes) => tap.came(alloc, role, output, Portion::of(bytes))?,
         Happened::Ended => match tap.ended(role, output) {
             Ok(()) => {}
             Err(WriteFault) => return Err(ShowFault::Write),

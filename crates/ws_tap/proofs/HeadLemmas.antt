@@ -1,6 +1,6 @@
 -- A head depends on its own bytes alone: more bytes leave it, and fewer do, down to its end.
-use Rattle.std.proofs.Common.{◌≡◌, ℕ, zero, suc, ◌+◌, ◌-◌, ◌<◌, ◌≤◌, List, [], ◌∷◌, ◌++◌, length, take, drop, Option}
-use Rattle.std.proofs.Common.{None, refl, sym, ap, ◌∙◌, arith, subst}
+use Rattle.std.proofs.Common.{◌≡◌, ℕ, zero, suc, ◌+◌, ◌-◌, ◌<◌, ◌≤◌, min, List, [], ◌∷◌, ◌++◌, length, take, drop}
+use Rattle.std.proofs.Common.{Option, None, refl, sym, ap, ◌∙◌, arith, subst}
 use Rattle.std.proofs.lemmas.List.{length-append, length-take, length-take-le, length-map, take-append-drop}
 use Rattle.std.proofs.lemmas.List.{take-append-le, take-take, take_all}
 use Rattle.std.proofs.Math.Seq.{take-append-add, take-append_seam}
@@ -17,6 +17,23 @@ use Rattle.ws_tap.specs.declared.heads.Head.{Head}
 use Rattle.ws_tap.specs.Heads.{HasRequest, HasResponse, HasHead, HasNoHead, head_front}
 
 -- ---- the front of a list
+
+-- so many bytes of a list, where there are so many
+front_to : (n : ℕ) (bytes : List ℕ) (count : ℕ) → count ≡ min n (length bytes) → take count bytes ≡ take n bytes
+front_to zero bytes count is =
+    let none : count ≡ 0 = omega (arith, is) in
+    ap (λ (k : ℕ). take k bytes) none
+front_to (suc n) [] count is = take_all count [] (omega arith)
+front_to (suc n) (byte ∷ bytes) zero is = absurd (omega (arith, is))
+front_to (suc n) (byte ∷ bytes) (suc count) is = ap (λ (t : List ℕ). byte ∷ t) (front_to n bytes count (omega (arith, is)))
+
+-- behind these bytes as many come as fit: they are a front of all
+pub fills : (n : ℕ) (bytes more : List ℕ) (count : ℕ) → length bytes ≤ n
+    → count ≡ min (n - length bytes) (length more) → bytes ++ take count more ≡ take n (bytes ++ more)
+fills n [] more count few is = front_to n more count (omega (arith, is))
+fills zero (byte ∷ bytes) more count few is = absurd (omega (arith, few))
+fills (suc n) (byte ∷ bytes) more count few is =
+    ap (λ (t : List ℕ). byte ∷ t) (fills n bytes more count (omega (arith, few)) (omega (arith, is)))
 
 -- a front of this length that is known splits the list
 splits_at : (front bytes : List ℕ) (n : ℕ) → n ≡ length front → take n bytes ≡ front → bytes ≡ front ++ drop n bytes

@@ -1,7 +1,7 @@
 -- What a pipe holds, behind each event of its direction.
 use Rattle.std.proofs.Common.{◌≡◌, ℕ, ◌+◌, ◌^◌, ◌<◌, ◌≤◌, Bool, true, false, List, [], ◌∷◌, ◌++◌, length}
 use Rattle.std.proofs.Common.{take, drop, refl, sym, ap, ◌∙◌, append-nil, append_assoc, arith, subst}
-use Rattle.std.proofs.lemmas.List.{length-append, length-drop, length-take-le, take-append-drop, drop_all}
+use Rattle.std.proofs.lemmas.List.{length-append, length-drop, take-append-drop, drop_all}
 use Rattle.ws_tap.specs.declared.pipe.PipeStage.{PipeStage}
 use Rattle.ws_tap.specs.declared.pipe.PipeStage.TheVariants as stage
 use Rattle.ws_tap.specs.Told.{Passage, IsPassedOn}
@@ -19,17 +19,9 @@ no_end_where_held [] at some = absurd (omega (arith, some))
 no_end_where_held (byte ∷ held) at some = refl
 
 -- as many bytes are held as came and were not taken
-pub held_len : (len taken : ℕ) (bytes held : List ℕ) → len ≤ length bytes → taken ≤ len
-    → held ≡ drop taken (take len bytes) → length held + taken ≡ len
-held_len len taken bytes held few le e =
-    omega (
-      arith,
-      few,
-      le,
-      ap (λ (t : List ℕ). length t) e,
-      length-drop taken (take len bytes),
-      length-take-le len bytes few,
-    )
+pub held_len : (taken : ℕ) (came held : List ℕ) → taken ≤ length came → held ≡ drop taken came
+    → length held + taken ≡ length came
+held_len taken came held le e = omega (arith, le, ap (λ (t : List ℕ). length t) e, length-drop taken came)
 
 -- where bytes may come, nothing is held, the direction is open, and they can be counted
 pub has_room : (held : List ℕ) (at : PipeStage) (total : ℕ) → 0 < room_at held at total

@@ -16,14 +16,16 @@ use Rattle.ws_tap.specs.declared.tapping.Passed.{Passed}
 use Rattle.ws_tap.specs.declared.tapping.Passed.TheVariants as passed
 use Rattle.ws_tap.specs.declared.tapping.TapEnd.{TapEnd}
 use Rattle.ws_tap.specs.declared.tapping.TapEnd.TheVariants.{Ended, Broken}
-use Rattle.ws_tap.specs.Told.{TapTold, CameFrom, EndedBy, TakenBy, EndedTo, Passage, other_end, passage}
-use Rattle.ws_tap.specs.Piping.{IsPipeOf}
+use Rattle.ws_tap.specs.Told.{TapTold, CameFrom, EndedBy, TakenBy, EndedTo, Passage, no_passage, other_end, passage}
+use Rattle.ws_tap.specs.Texts.{NotYet}
+use Rattle.ws_tap.specs.Piping.{IsPipeOf, new_pipe}
 use Rattle.ws_tap.specs.Tapping.{HasTapped, StandsOn, ends_wanted, is_tap_over, pipe_from, room_from, waits_for}
 use Rattle.ws_tap.specs.Running.{DeviceBytes, TapDevices, TapDirection, DidAll, DidDirection, EndsDirection}
 use Rattle.ws_tap.specs.Running.{IsTapStep, PassesOne, ReadsSome, TapsEnds, TellsTap, WritesToEnd, device_bytes}
 use Rattle.ws_tap.specs.Running.{direction_at}
 use Rattle.ws_tap.proofs.Passages.{passage_with}
-use Rattle.ws_tap.proofs.PipeLemmas.{end_is_due, ended_is}
+use Rattle.ws_tap.proofs.HeadStarts.{nothing_has_no_head}
+use Rattle.ws_tap.proofs.PipeLemmas.{end_is_due, ended_is, is_passed_on, pipe_is_new}
 use Rattle.ws_tap.proofs.TapStands.{going_at, over_is, passed_on, tap_tells}
 
 -- ---- what each event does to the two directions
@@ -520,6 +522,38 @@ run_is_broken tapped tap devices at_server at_client failed r works = (
   ),
 )
 
+-- and so does one that can't begin
+pub run_begins_not : (tapped : Tapped) (a b d e l : Option (List ℕ)) (failed : Bool) → failed ≡ false
+    → TapsEnds tapped (record {
+      client = record { input = device_bytes a a; output = device_bytes b b };
+      server = record { input = device_bytes d d; output = device_bytes e e };
+      lines = device_bytes l l;
+    }) failed (Ok Broken)
+run_begins_not tapped a b d e l failed works =
+    let none = is_passed_on new_pipe no_passage (pipe_is_new new_pipe refl) in (
+      works,
+      (
+        [],
+        [],
+        record {
+          client = record { read = Consumes-nil a; at_end = λ over. absurd cc; written = Appends-nil b };
+          server = record { read = Consumes-nil d; at_end = λ over. absurd cc; written = Appends-nil e };
+          lines = Appends-nil l;
+        },
+        record { client = none; server = none },
+        record {
+          answered = NotYet;
+          parts = [];
+          has_answered = nothing_has_no_head Server;
+          of_client = inl (nothing_has_no_head Client, refl);
+          of_server = inl (nothing_has_no_head Server, refl);
+          in_order = tt;
+          all = refl;
+        },
+        tt,
+      ),
+    )
+
 -- what was told
 pub run_tells : (tapped : Tapped) (devices : TapDevices) (failed : Bool) (result : Result TapEnd ShowFault)
     → TapsEnds tapped devices failed result
@@ -537,14 +571,6 @@ pub writes_none : (role : Role) (tap : Tap) (writer : DeviceBytes) (outcome : Pa
 writes_none role tap writer passed.On other appends = absurd (other refl)
 writes_none role tap writer passed.Waits other appends = (appends, refl)
 writes_none role tap writer passed.Broken other appends = (appends, refl)
-
--- nothing was read
-pub reads_none : (role : Role) (tap : Tap) (reader : DeviceBytes) (output : Device) (outcome : Passed)
-    → (outcome ≡ passed.On → ⊥) → Consumes reader.old reader.new [] → output.failed ≡ false → HasWritten [] output
-    → ReadsSome role tap tap reader output (Ok outcome)
-reads_none role tap reader output passed.On other consumes works wrote = absurd (other refl)
-reads_none role tap reader output passed.Waits other consumes works wrote = (consumes, refl, works, wrote)
-reads_none role tap reader output passed.Broken other consumes works wrote = (consumes, refl, works, wrote)
 
 -- what isn't none is some
 pub not_none : (n : ℕ) → false ≡ (n == 0) → 0 < n

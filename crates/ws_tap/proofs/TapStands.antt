@@ -111,6 +111,18 @@ pub lines_at : (role : Role) (tap : Tap) (pipe : PipeValue) → (with_pipe role 
 lines_at Client tap pipe = refl
 lines_at Server tap pipe = refl
 
+-- a piece is held whatever the lines are
+pub held_behind : (role : Role) (tap : Tap) (lines : TapLines) (piece : List ℕ)
+    → with_pipe role (record tap { lines = lines }) (with_piece (pipe_from role (record tap { lines = lines })) piece)
+    ≡ record (with_pipe role tap (with_piece (pipe_from role tap) piece)) { lines = lines }
+held_behind Client tap lines piece = refl
+held_behind Server tap lines piece = refl
+
+pub room_behind : (role : Role) (tap : Tap) (lines : TapLines)
+    → room_from role (record tap { lines = lines }) ≡ room_from role tap
+room_behind Client tap lines = refl
+room_behind Server tap lines = refl
+
 -- an end that may be read hasn't ended its direction
 pub going_at : (role : Role) (tapped : Tapped) (told : List TapTold) (tap : Tap) (text : List ℕ)
     → HasTapped tapped told tap text → 0 < room_from role tap → (passage role told).ended ≡ false

@@ -1,5 +1,6 @@
 -- A run of a tap over the readers and writers of its ends, until both directions have ended.
-use Rattle.std.specs.Prelude.{◌≡◌, ◌⊎◌, ℕ, ⊤, Bool, true, false, List, [], ◌++◌, Option, Some, Result, Ok, Err}
+use Rattle.std.specs.Prelude.{◌≡◌, ◌⊎◌, ℕ, ◌≤◌, ⊤, Bool, true, false, List, [], ◌++◌, length, Option, Some}
+use Rattle.std.specs.Prelude.{Result, Ok, Err}
 use Rattle.std.specs.Io.KnownBytes.{Appends, Consumes, IsAtEnd, Keeps}
 use Rattle.ws_wire.specs.declared.role.Role.{Role}
 use Rattle.ws_wire.specs.declared.role.Role.TheVariants.{Client, Server}
@@ -108,6 +109,12 @@ EndsDirection role old new writer ended passed.On =
     Keeps writer.old writer.new × ExtendsTap old new (EndedTo role) × ended
 EndsDirection role old new writer ended passed.Waits = ⊥
 EndsDirection role old new writer ended passed.Broken = Keeps writer.old writer.new × (new ≡ old)
+
+-- what came of one read: bytes, at most so many, and none only at the end of the reader; or nothing
+abbrev pub HasReadPortion : {E : Type 0} → DeviceBytes → Result (List ℕ) E → Type 0
+HasReadPortion reader (Ok piece) = Consumes reader.old reader.new piece × (length piece ≤ 65536)
+    × (length piece ≡ 0 → IsAtEnd reader.new)
+HasReadPortion reader (Err error) = Consumes reader.old reader.new []
 
 -- what came of a read from an end: bytes, or the end of the stream, of which the tap was told; or nothing
 abbrev pub ReadsSome : Role → Tap → Tap → DeviceBytes → Device → Result Passed ShowFault → Type 0

@@ -14,6 +14,7 @@ mod keeping;
 mod kept_lines;
 pub mod laws;
 mod pipe;
+mod portion;
 mod release;
 mod tap;
 mod tap_lines;
@@ -21,6 +22,7 @@ mod tapped;
 mod tapping;
 mod telling;
 
+pub use portion::Portion;
 pub use tap::Tap;
 pub use tapped::Tapped;
 pub use tapping::{TapEnd, TapSide, TapWriter, Wakes, tap_ends};

@@ -5,18 +5,20 @@ ghost use Rattle.ws_tap.specs.Piping.{PipeValue};
 ghost use Rattle.ws_tap.specs.Piping.{has_ended, is_passed, new_pipe, room_in, wants_end_of, with_direction_ended};
 ghost use Rattle.ws_tap.specs.Piping.{with_end_come, with_piece, with_bytes_taken};
 
+use crate::portion::Portion;
+use std::alloc::Global;
 use std::marker::Model;
 
-/// How many bytes a pipe holds.
+/// How many bytes may come at a time.
 const PIPE: usize = 65536;
 
 /// Bytes that came from one end and are to be written to the other. It takes more only where it is empty, so an end
-/// that takes no bytes stops the reading from the other.
+/// that takes no bytes stops the reading from the other. Where it is empty it has no memory.
 #[derive(Drop)]
 pub(crate) struct Pipe {
-    /// The bytes that came last.
-    bytes: [u8; PIPE],
-    len: usize,
+    alloc: Global,
+    /// The bytes that came last, or none once all of them were taken.
+    came: Portion,
     /// How many of them were taken by the other end.
     taken: usize,
     /// How many bytes came in all.
@@ -36,28 +38,28 @@ pub(crate) enum PipeStage {
 }
 
 impl Model for Pipe {
-    ghost use Rattle.std.specs.Prelude.{take, drop, ◌≤◌};
+    ghost use Rattle.std.specs.Prelude.{drop, length, ◌≤◌};
     ghost use Rattle.ws_tap.specs.Piping.{PipeValue};
 
     ghost Value = { PipeValue };
 
     ghost view = { λ pipe. record {
-      held = drop pipe.taken (take pipe.len pipe.bytes);
+      held = drop pipe.taken pipe.came;
       total = pipe.total;
       stage = pipe.stage;
     } };
 
-    ghost invariant = { λ pipe. (pipe.len ≤ 65536) × (pipe.taken ≤ pipe.len) };
+    ghost invariant = { λ pipe. (length pipe.came ≤ 65536) × (pipe.taken ≤ length pipe.came) };
 }
 
 impl Pipe {
     /// Nothing has come yet.
-    pub(crate) fn new() -> Pipe
+    pub(crate) fn new(alloc: Global) -> Pipe
         ensures { result ≡ new_pipe }
     {
         Pipe {
-            bytes: [0; PIPE],
-            len: 0,
+            alloc,
+            came: Portion::none(alloc),
             taken: 0,
             total: 0,
             stage: PipeStage::Open,
@@ -68,7 +70,7 @@ impl Pipe {
     pub(crate) fn room(&self) -> usize
         ensures room { result ≡ room_in self.now }
     {
-        if self.taken < self.len {
+        if self.taken < self.came.len() {
             return 0;
         }
         match self.stage {
@@ -78,15 +80,14 @@ impl Pipe {
     }
 
     /// These bytes came.
-    pub(crate) fn came(&mut self, piece: &[u8])
-        requires some { 0 < length piece.now }
-        requires fits { length piece.now ≤ room_in self.old }
-        ensures came { self.new ≡ with_piece self.old piece.now }
+    pub(crate) fn came(&mut self, piece: Portion)
+        requires some { 0 < length piece }
+        requires fits { length piece ≤ room_in self.old }
+        ensures came { self.new ≡ with_piece self.old piece }
     {
-        self.bytes[..piece.len()].copy_from_slice(piece);
-        self.len = piece.len();
-        self.taken = 0;
         self.total += piece.len() as u64;
+        self.taken = 0;
+        self.came = piece;
     }
 
     /// The end that sends has ended its direction.
@@ -100,22 +101,26 @@ impl Pipe {
     pub(crate) fn held(&self) -> &[u8]
         ensures held { result.now ≡ self.now.held }
     {
-        &self.bytes[self.taken..self.len]
+        &self.came.as_slice()[self.taken..]
     }
 
-    /// The other end took so many of them.
+    /// The other end took so many of them. Behind the last one their memory is given back.
     pub(crate) fn took(&mut self, count: usize)
         requires held { count ≤ length self.old.held }
         ensures taken { self.new ≡ with_bytes_taken self.old count }
     {
         self.taken += count;
+        if self.taken == self.came.len() {
+            self.taken = 0;
+            self.came = Portion::none(self.alloc);
+        }
     }
 
     /// Whether the direction to the other end is to be ended: all that came was taken, and nothing more comes.
     pub(crate) fn wants_end(&self) -> bool
         ensures wanted { result ≡ wants_end_of self.now }
     {
-        if self.taken < self.len {
+        if self.taken < self.came.len() {
             return false;
         }
         match self.stage {

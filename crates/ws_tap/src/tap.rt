@@ -1,6 +1,6 @@
 //! A connection between a client and a server that is tapped: its bytes are passed on both ways, and told.
 
-ghost use Rattle.std.specs.Prelude.{◌≡◌, ◌<◌, ◌≤◌, [], length, take, true, false};
+ghost use Rattle.std.specs.Prelude.{◌≡◌, ◌<◌, ◌≤◌, [], length, take, true, false, IfOk};
 ghost use Rattle.ws_frame.specs.Devices.{watched};
 ghost use Rattle.ws_frame.specs.Watching.{has_failed};
 ghost use Rattle.ws_tap.specs.Tapping.{EndsNext, ExtendsTap, HasTapped, IsTapping, TellsNext, ends_wanted, is_tap_over};
@@ -9,16 +9,19 @@ ghost use Rattle.ws_tap.specs.Piping.{with_piece};
 ghost use Rattle.ws_tap.specs.Told.{CameFrom, EndedTo, TakenBy};
 
 use crate::pipe::Pipe;
+use crate::portion::Portion;
 use crate::tap_lines::TapLines;
 use crate::tapped::Tapped;
 use std::alloc::Global;
 use std::io::Write;
+use ws_base::NoMemory;
 use ws_frame::{ShowFault, Watched, WriteFault};
 use ws_wire::Role;
 
 /// A tapped connection, as a machine with two sides: it is told what happened at either end, says what each is to be
 /// asked for next, and tells its lines. What came from one end is to be written to the other, unchanged and in order.
-/// It reads nothing itself, and waits for nothing. Memory is taken only where whole payloads are shown.
+/// It reads nothing itself, and waits for nothing. What it takes of memory at first it gives back once the server has
+/// answered; later it takes some only where whole payloads are shown.
 #[derive(Drop)]
 pub struct Tap {
     /// From the client to the server.
@@ -32,15 +35,16 @@ pub struct Tap {
 
 impl Tap {
     /// This connection, over which nothing has passed.
-    pub fn new(tapped: Tapped) -> Tap
-        ensures begun { HasTapped tapped [] result [] }
+    pub fn new(alloc: Global, tapped: Tapped) -> Result<Tap, NoMemory>
+        ensures begun { IfOk result (λ made. HasTapped tapped [] made []) }
     {
-        Tap {
-            client: Pipe::new(),
-            server: Pipe::new(),
-            lines: TapLines::new(tapped),
+        let lines = TapLines::new(alloc, tapped)?;
+        Ok(Tap {
+            client: Pipe::new(alloc),
+            server: Pipe::new(alloc),
+            lines,
             first: None,
-        }
+        })
     }
 
     /// How many bytes may be read from this end now, 0 where none may: an end is read once all that came from it was
@@ -61,17 +65,18 @@ impl Tap {
         alloc: Global,
         role: Role,
         output: &mut Watched<W>,
-        piece: &[u8],
+        piece: Portion,
     ) -> Result<(), ShowFault>
-        requires some { 0 < length piece.now }
-        requires fits { length piece.now ≤ room_from role self.old }
+        requires some { 0 < length piece }
+        requires fits { length piece ≤ room_from role self.old }
         requires tapping { IsTapping self.old }
         requires output_works { has_failed output.old ≡ false }
-        ensures told { TellsNext (CameFrom role piece.now) self.old self.new
+        ensures told { TellsNext (CameFrom role piece) self.old self.new
             (watched W.contents output.old output.new) result }
     {
+        let told = self.lines.came(alloc, role, output, piece.as_slice());
         self.hold(role, piece);
-        self.lines.came(alloc, role, output, piece)
+        told
     }
 
     /// This end has ended its direction, where it may be read: a cut inside a frame is told. At an error the output has
@@ -143,10 +148,10 @@ impl Tap {
     }
 
     /// Holds what came from this end.
-    fn hold(&mut self, role: Role, piece: &[u8])
-        requires some { 0 < length piece.now }
-        requires fits { length piece.now ≤ room_from role self.old }
-        ensures held { self.new ≡ with_pipe role self.old (with_piece (pipe_from role self.old) piece.now) }
+    fn hold(&mut self, role: Role, piece: Portion)
+        requires some { 0 < length piece }
+        requires fits { length piece ≤ room_from role self.old }
+        ensures held { self.new ≡ with_pipe role self.old (with_piece (pipe_from role self.old) piece) }
     {
         match role {
             Role::Client => self.client.came(piece),

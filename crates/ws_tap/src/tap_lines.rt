@@ -1,6 +1,6 @@
 //! The lines that tell of both ends of a tapped connection.
 
-ghost use Rattle.std.specs.Prelude.{◌≡◌, [], length, false};
+ghost use Rattle.std.specs.Prelude.{◌≡◌, [], length, false, IfOk};
 ghost use Rattle.ws_frame.specs.Devices.{watched};
 ghost use Rattle.ws_frame.specs.Watching.{has_failed};
 ghost use Rattle.ws_tap.specs.Standing.{CanTellMore, HasToldLines, SendsTo, TellsPieceOf, TellsEnded};
@@ -12,6 +12,7 @@ use crate::tapped::{Tapped, TappedEnd};
 use crate::telling::{SideStage, tell_end, tell_some};
 use std::alloc::Global;
 use std::io::Write;
+use ws_base::NoMemory;
 use ws_frame::{ShowFault, Watched, WriteFault};
 use ws_wire::Role;
 
@@ -26,15 +27,18 @@ pub(crate) struct TapLines {
 
 impl TapLines {
     /// Nothing has come.
-    pub(crate) fn new(tapped: Tapped) -> TapLines
-        ensures begun { HasToldLines tapped [] result [] }
+    pub(crate) fn new(alloc: Global, tapped: Tapped) -> Result<TapLines, NoMemory>
+        ensures begun { IfOk result (λ made. HasToldLines tapped [] made []) }
     {
-        TapLines {
+        let client = HeadRoom::new(alloc)?;
+        let server = HeadRoom::new(alloc)?;
+        let kept = KeptLines::new(alloc)?;
+        Ok(TapLines {
             tapped,
-            client: SideStage::Head(HeadRoom::new()),
-            server: SideStage::Head(HeadRoom::new()),
-            release: Release::Awaited(KeptLines::new()),
-        }
+            client: SideStage::Head(client),
+            server: SideStage::Head(server),
+            release: Release::Awaited(kept),
+        })
     }
 
     /// More bytes came from an end: what they make certain is told. At an error the output has failed, or memory ran

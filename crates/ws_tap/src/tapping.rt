@@ -1,15 +1,16 @@
 //! A tapped connection over the readers and writers of its ends, until both directions have ended.
 
-ghost use Rattle.std.specs.Prelude.{◌≡◌, ◌≢◌, ◌<◌, IfOk, false, true};
+ghost use Rattle.std.specs.Prelude.{◌≡◌, ◌≢◌, ◌<◌, IfOk, false, length, true};
 ghost use Rattle.std.specs.Io.KnownBytes.{Keeps};
 ghost use Rattle.ws_frame.specs.Devices.{watched};
 ghost use Rattle.ws_frame.specs.Watching.{has_failed};
 ghost use Rattle.ws_tap.specs.Tapping.{IsTapping, ends_wanted, room_from};
 ghost use Rattle.ws_tap.specs.Told.{other_end};
-ghost use Rattle.ws_tap.specs.Running.{EndsDirection, HalfClosesBoth, PassesOne, ReadsSome, TapsEnds, TellsTap};
-ghost use Rattle.ws_tap.specs.Running.{WritesToEnd, device_bytes, run_devices};
+ghost use Rattle.ws_tap.specs.Running.{EndsDirection, HalfClosesBoth, HasReadPortion, PassesOne, ReadsSome, TapsEnds};
+ghost use Rattle.ws_tap.specs.Running.{TellsTap, WritesToEnd, device_bytes, run_devices};
 ghost use Rattle.ws_tap.specs.declared.tapping.Passed.TheVariants.{On};
 
+use crate::portion::{FEW, Portion};
 use crate::tap::Tap;
 use crate::tapped::Tapped;
 use std::alloc::Global;
@@ -50,7 +51,7 @@ pub struct TapSide<R, W> {
 pub enum TapEnd {
     /// Both directions have ended, that of this end first.
     Ended(Role),
-    /// A read, a write, a half-close or a wait failed.
+    /// A read, a write, a half-close or a wait failed, or there was no room to begin with.
     Broken,
 }
 
@@ -85,7 +86,9 @@ pub fn tap_ends<CR: Read, CW: TapWriter, SR: Read, SW: TapWriter, K: Wakes, W: W
     ensures tells { TellsTap tapped result (watched W.contents output.old output.new) }
     ensures half_closes { HalfClosesBoth (CW.is_ended client.new.writer) (SW.is_ended server.new.writer) result }
 {
-    let mut tap = Tap::new(tapped);
+    let Ok(mut tap) = Tap::new(alloc, tapped) else {
+        return Ok(TapEnd::Broken);
+    };
     for _ in 0..u64::MAX {
         let sent = pass(
             alloc,
@@ -206,18 +209,42 @@ fn read_some<R: Read, O: Write>(
     if tap.room(role) < READ {
         return Ok(Passed::Broken);
     }
-    let mut room = [0; READ];
-    match from.read(&mut room) {
-        Ok(0) => {
-            tap.ended(role, output)?;
-            Ok(Passed::On)
-        }
-        Ok(count) => {
-            tap.came(alloc, role, output, &room[..count])?;
+    match read_portion(alloc, from) {
+        Ok(piece) => {
+            if piece.len() == 0 {
+                tap.ended(role, output)?;
+            } else {
+                tap.came(alloc, role, output, piece)?;
+            }
             Ok(Passed::On)
         }
         Err(error) => Ok(after_error(&error)),
     }
+}
+
+/// Reads once: bytes, or none at the end. Where memory is short they are few.
+fn read_portion<R: Read>(alloc: Global, from: &mut R) -> io::Result<Portion>
+    ensures { HasReadPortion (device_bytes (R.remaining from.old) (R.remaining from.new)) result }
+{
+    match vec![in alloc; 0; READ] {
+        Ok(room) => read_many(room, from),
+        Err(_) => {
+            let mut room = [0; FEW];
+            let count = from.read(&mut room)?;
+            Ok(Portion::few(alloc, &room[..count]))
+        }
+    }
+}
+
+/// Reads once into this room.
+fn read_many<R: Read>(room: Vec<u8>, from: &mut R) -> io::Result<Portion>
+    requires { length room.items ≡ 65536 }
+    ensures { HasReadPortion (device_bytes (R.remaining from.old) (R.remaining from.new)) result }
+{
+    let mut room = room;
+    let count = from.read(room.as_mut_slice())?;
+    room.truncate(count);
+    Ok(Portion::of(room))
 }
 
 /// What an error says of a step. One of the kind `WouldBlock` is no failure: nothing can be read or written yet.

@@ -13,7 +13,7 @@ returns-in_err-came-in-Came g c =
     let out = watched g.W.Write.contents c.args.output.now c.came.new.output in
     let p = err_from_is_err_and c.from_residual.result c.from_residual.ensures.1 in
     let told = subst (λ (t : List ℕ). TellsNext (CameFrom c.args.role t) c.args.tap.now c.came.new.self out
-    (Err c.in_err-came-in-Came.field-0.0)) c.as_slice.ensures.value c.in_err-came-in-Came.ensures.told in
+    (Err c.in_err-came-in-Came.field-0.0)) c.of.ensures c.in_err-came-in-Came.ensures.told in
     rw c.in-Came.is (rw p.1 (record {
       told = subst (λ (f : ShowFault). TellsNext (CameFrom c.args.role c.in-Came.bytes.items) c.args.tap.now
           c.came.new.self out (Err f)) (sym p.2) told;
@@ -24,7 +24,7 @@ returns-in_ok-came-in-Came g c =
     let out = watched g.W.Write.contents c.args.output.now c.came.new.output in
     rw c.in-Came.is (record {
       told = subst (λ (t : List ℕ). TellsNext (CameFrom c.args.role t) c.args.tap.now c.came.new.self out (Ok tt))
-          c.as_slice.ensures.value c.in_ok-came-in-Came.ensures.told;
+          c.of.ensures c.in_ok-came-in-Came.ensures.told;
     })
 
 pub returns-in-Err : goal.returns-in-Err

@@ -7,19 +7,36 @@ use Rattle.ws_frame.specs.declared.show_fault.ShowFault.{ShowFault}
 use Rattle.ws_tap.specs.Running.{TapsEnds, device_bytes, run_devices}
 use Rattle.ws_tap.specs.Tapping.{is_tap_over}
 use Rattle.ws_tap.specs.declared.tapping.TapEnd.TheVariants.{Ended, Broken}
-use Rattle.ws_tap.proofs.RunLemmas.{client_fails, run_begins, run_client, run_is_broken, run_is_over, run_server}
-use Rattle.ws_tap.proofs.RunLemmas.{run_tells, server_fails}
+use Rattle.ws_tap.proofs.RunLemmas.{client_fails, run_begins, run_begins_not, run_client, run_is_broken}
+use Rattle.ws_tap.proofs.RunLemmas.{run_is_over, run_server, run_tells, server_fails}
 use Rattle.ws_tap.proofs.tapping.tap_ends.Goals as goal
 
 pub loop-init : goal.loop-init
 loop-init g c = (
   c.requires.output_works,
-  run_begins c.args.tapped c.new-tap.result (g.CR.Read.remaining c.args.client.now.reader)
+  run_begins c.args.tapped c.in-Ok.tap (g.CR.Read.remaining c.args.client.now.reader)
       (g.SW.Write.contents c.args.server.now.writer) (g.SR.Read.remaining c.args.server.now.reader)
       (g.CW.Write.contents c.args.client.now.writer) (g.W.Write.contents (inner_of c.args.output.now))
       (g.SW.TapWriter.is_ended c.args.server.now.writer) (g.CW.TapWriter.is_ended c.args.client.now.writer)
-      c.new-tap.ensures.begun,
+      c.in-Ok.ensures.begun,
 )
+
+pub returns-in_default-clause-taps : goal.returns-in_default-clause-taps
+returns-in_default-clause-taps g c =
+    run_begins_not c.args.tapped (g.CR.Read.remaining c.args.client.now.reader)
+    (g.SW.Write.contents c.args.server.now.writer) (g.SR.Read.remaining c.args.server.now.reader)
+    (g.CW.Write.contents c.args.client.now.writer) (g.W.Write.contents (inner_of c.args.output.now))
+    (has_failed c.args.output.now) c.requires.output_works
+
+pub returns-in_default-clause-tells : goal.returns-in_default-clause-tells
+returns-in_default-clause-tells g c =
+    let still = run_devices
+    (device_bytes (g.CR.Read.remaining c.args.client.now.reader) (g.CR.Read.remaining c.args.client.now.reader))
+    (device_bytes (g.CW.Write.contents c.args.client.now.writer) (g.CW.Write.contents c.args.client.now.writer))
+    (device_bytes (g.SR.Read.remaining c.args.server.now.reader) (g.SR.Read.remaining c.args.server.now.reader))
+    (device_bytes (g.SW.Write.contents c.args.server.now.writer) (g.SW.Write.contents c.args.server.now.writer))
+    (watched g.W.Write.contents c.args.output.now c.args.output.now) in
+    run_tells c.args.tapped still (has_failed c.args.output.now) (Ok Broken) (returns-in_default-clause-taps g c)
 
 pub pass-requires-clause-tapping : goal.pass-requires-clause-tapping
 pass-requires-clause-tapping g c =

@@ -1,44 +1,42 @@
--- What came is held, and told.
-use Rattle.std.proofs.Common.{◌≡◌, ◌∙◌, ◌++◌, ◌∷◌, [], length, arith, sym, ap, subst}
+-- What came is told, and held.
+use Rattle.std.proofs.Common.{◌∙◌, ◌++◌, ◌∷◌, List, ℕ, [], length, arith, sym, subst}
 use Rattle.ws_frame.specs.Devices.{watched}
 use Rattle.ws_tap.specs.declared.tap.Tap.{Tap}
-use Rattle.ws_tap.specs.declared.tap_lines.TapLines.{TapLines}
 use Rattle.ws_tap.specs.Told.{CameFrom}
-use Rattle.ws_tap.specs.Piping.{with_piece}
 use Rattle.ws_tap.specs.Standing.{CanTellMore, TellsPieceOf}
-use Rattle.ws_tap.specs.Tapping.{StandsOn, pipe_from}
-use Rattle.ws_tap.proofs.TapStands.{can_tell, lines_at, tap_came}
+use Rattle.ws_tap.specs.Tapping.{StandsOn}
+use Rattle.ws_tap.proofs.TapStands.{can_tell, held_behind, room_behind, tap_came}
 use Rattle.ws_tap.proofs.tap.Tap.came.Goals as goal
 
-pub came-requires-clause-stands : goal.came-requires-clause-stands
-came-requires-clause-stands g c =
+pub came-told-requires-clause-stands : goal.came-told-requires-clause-stands
+came-told-requires-clause-stands g c =
     let role = c.args.role in
     let self = c.args.self.now in
-    let piece = c.args.piece.now in
+    let piece = c.args.piece in
     let (tapped, told, text, h) = c.requires.tapping in
-    let same : c.hold.new.self.lines ≡ self.lines = ap (λ (t : Tap). t.lines) c.hold.ensures.held
-    ∙ lines_at role self (with_piece (pipe_from role self) piece) in
-    subst (λ (l : TapLines). CanTellMore role (length piece) l) (sym same)
+    subst (λ (p : List ℕ). CanTellMore role (length p) self.lines) (sym c.as_slice.ensures)
     (can_tell role tapped told self text (length piece) h (omega (arith, c.requires.some, c.requires.fits))
     c.requires.fits)
+
+pub hold-requires-clause-fits : goal.hold-requires-clause-fits
+hold-requires-clause-fits g c =
+    omega (arith, c.requires.fits, room_behind c.args.role c.args.self.now c.came-told.new.self)
 
 pub returns : goal.returns
 returns g c = record {
   told = λ tapped told text h.
       let role = c.args.role in
       let self = c.args.self.now in
-      let piece = c.args.piece.now in
-      let out = watched g.W.Write.contents c.args.output.now c.came.new.output in
-      let lines = c.came.new.self in
-      let same : c.hold.new.self.lines ≡ self.lines = ap (λ (t : Tap). t.lines) c.hold.ensures.held
-      ∙ lines_at role self (with_piece (pipe_from role self) piece) in
-      let tells = subst (λ (l : TapLines). TellsPieceOf role l lines piece out c.came.result) same c.came.ensures.told
-      in
-      let (more, wrote, stands) = tap_came role self lines piece out c.came.result tapped told text c.requires.some
+      let piece = c.args.piece in
+      let out = watched g.W.Write.contents c.args.output.now c.came-told.new.output in
+      let lines = c.came-told.new.self in
+      let tells = subst (λ (p : List ℕ). TellsPieceOf role self.lines lines p out c.came-told.result)
+      c.as_slice.ensures c.came-told.ensures.told in
+      let (more, wrote, stands) = tap_came role self lines piece out c.came-told.result tapped told text c.requires.some
       c.requires.fits tells h in (
         more,
         wrote,
-        subst (λ (t : Tap). StandsOn tapped (told ++ CameFrom role piece ∷ []) (record t { lines = lines })
-            (text ++ more) out.failed c.came.result) (sym c.hold.ensures.held) stands,
+        subst (λ (t : Tap). StandsOn tapped (told ++ CameFrom role piece ∷ []) t (text ++ more) out.failed
+            c.came-told.result) (sym (c.hold.ensures.held ∙ held_behind role self lines piece)) stands,
       );
 }

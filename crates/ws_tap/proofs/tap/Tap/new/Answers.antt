@@ -6,11 +6,11 @@ use Rattle.ws_tap.proofs.tap.Tap.new.Goals as goal
 pub returns : goal.returns
 returns c = record {
   begun = record {
-    client = pipe_is_new c.new.result c.new.ensures;
-    server = pipe_is_new c.new-2.result c.new-2.ensures;
+    client = pipe_is_new c.new-2.result c.new-2.ensures;
+    server = pipe_is_new c.new-3.result c.new-3.ensures;
     first = refl;
     parts = [];
-    lines = c.new-3.ensures.begun;
+    lines = c.in_ok-lines.ensures.begun;
     all = refl;
   };
 }

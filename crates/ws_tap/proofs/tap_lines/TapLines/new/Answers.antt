@@ -13,8 +13,8 @@ returns c = record {
     stands = record {
       tapped_is = refl;
       knows = nothing_has_no_head Server;
-      of_client = ((c.new.ensures, nothing_has_no_head Client), refl, c.new-3.ensures);
-      of_server = ((c.new-2.ensures, nothing_has_no_head Server), refl, tt);
+      of_client = ((c.in_ok-client.ensures, nothing_has_no_head Client), refl, c.in_ok-kept.ensures);
+      of_server = ((c.in_ok-server.ensures, nothing_has_no_head Server), refl, tt);
       in_order = tt;
     };
   };
