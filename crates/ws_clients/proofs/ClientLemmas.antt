@@ -21,7 +21,7 @@ use Rattle.ws_loops.specs.Deeds.{told_by}
 use Rattle.ws_loops.specs.Deeds.Deed.{Did, Emptied, HadNone, Passed, Showed, TookNone, Woken}
 use Rattle.ws_loops.specs.Listeners.{AcceptDeed, HasArrived, HasHeardFor}
 use Rattle.ws_loops.specs.Loops.{HasGoneOn, HaveRun}
-use Rattle.ws_loops.specs.Looping.{IsEnding, LoopValue}
+use Rattle.ws_loops.specs.Looping.{LoopValue}
 use Rattle.ws_loops.specs.Paces.{has_ended_by}
 use Rattle.ws_loops.specs.Places.{AreEmpty, IsOverAt, IsPlaceOver, Kind, StayOfKind, place_kind}
 use Rattle.ws_loops.specs.Places.Kind.{Nothing, Slotted, UnderWay}
@@ -29,8 +29,6 @@ use Rattle.ws_loops.specs.Sinks.{lines_at}
 use Rattle.ws_loops.specs.Slots.{AreSteps, HasRunBy, IsNextDeed}
 use Rattle.ws_loops.specs.declared.listening.Arrival.{Arrival}
 use Rattle.ws_loops.specs.declared.listening.Arrival.TheVariants as arrival
-use Rattle.ws_loops.specs.declared.looping.Ending.{Ending}
-use Rattle.ws_loops.specs.declared.looping.Ending.TheVariants as ending
 use Rattle.ws_loops.specs.declared.pace.Pace.{Pace}
 use Rattle.ws_loops.specs.declared.places.Place.{Place}
 use Rattle.ws_loops.specs.declared.places.Place.TheVariants.{Broken, Empty, Open, Pending}
@@ -45,7 +43,7 @@ use Rattle.ws_handshake.specs.Admissions.{AdmitGives, AdmitValue, WasAdmitted}
 use Rattle.ws_handshake.specs.declared.admission.Admission.{Admission}
 use Rattle.ws_clients.specs.Clients.{AreClientsSound, AreNoneHeld, ClientsValue, EndsAtOnce, EndsSlot, HasBecome, HasCome}
 use Rattle.ws_clients.specs.Clients.{HasGoneOnTo, HasLines, HoldsBehind, IsAwaitedAt, IsHeldAt, IsLeaver, IsLeftAt}
-use Rattle.ws_clients.specs.Clients.{IsLimitAt, IsOfPlace, IsOverAs, LingersAt}
+use Rattle.ws_clients.specs.Clients.{IsLimitAt, IsOfPlace, LingersAt}
 use Rattle.ws_clients.specs.Clients.{IsDeaf, IsPlayEnd, IsPlaying, IsTakenOut, KeepsPlays, PlaysOn, PlaysThere}
 use Rattle.ws_clients.specs.Clients.{IsNewlyHeld, StandsWhere, StayHeld, WasInVain, WasNoneHeld, held_stream, held_streams}
 use Rattle.ws_clients.specs.Clients.{IsPlayedOut, PlayNoMore, PlayedOnly, PlaysAt, TellsPlayed, line_told, lines_told}
@@ -601,6 +599,24 @@ module _ {M S : Type 0} (agrees : M → M → List Told → Type 0) (did : S →
       by i h (inl (same, e)) = absurd (none-some h (sym e))
       by i h (inr (far, is)) = sound.waits i h is
 
+  -- and where nothing was held
+  pub sound_unheld : (known : List (List ℕ)) (l : LoopValue (Talk M) S) (held after : List (Option (Held S)))
+      (broken : Bool) (at : ℕ) (x : Option (Held S)) → IsTakenOut at held after x
+      → AreClientsSound agrees did known l held broken → AreClientsSound agrees did known l after broken
+  sound_unheld known l held after broken at None same sound =
+      subst (λ (h : List (Option (Held S))). AreClientsSound agrees did known l h broken) (sym same) sound
+  sound_unheld known l held after broken at (Some h) taken sound =
+      subst (λ (h : List (Option (Held S))). AreClientsSound agrees did known l h broken) (sym taken.1)
+      (sound_taken known l held broken at sound)
+
+  pub none_unheld : (held after : List (Option (Held S))) (at : ℕ) (x : Option (Held S)) → IsTakenOut at held after x
+      → WasNoneHeld at held x → (h : Held S) → slice_get after at ≡ Some (Some h) → ⊥
+  none_unheld held after at None same none h is =
+      none h (subst (λ (l : List (Option (Held S))). slice_get l at ≡ Some (Some h)) same is)
+  none_unheld held after at (Some was) taken none h is = none_left held at
+      (slice_get_within held at (Some was) taken.0) h
+      (subst (λ (l : List (Option (Held S))). slice_get l at ≡ Some (Some h)) taken.1 is)
+
   -- a slot is put into a place beside which nothing is held
   pub sound_open : (known : List (List ℕ)) (old new : LoopValue (Talk M) S) (held : List (Option (Held S)))
       (broken : Bool) (at : ℕ) (slot : Slot (Talk M) S) → new.places ≡ slice_set old.places at (Open slot)
@@ -688,6 +704,26 @@ module _ {M S : Type 0} (agrees : M → M → List Told → Type 0) (did : S →
   sound_empty known old new held broken at x is apart set sound = sound_clear known old new held broken at Empty set tt
       (λ h h_is. absurd (none_waits known old held broken at x is apart sound h h_is))
       (slice_get_within old.places at x is) sound
+
+  -- a place beside which nothing is held any more
+  pub sound_dropped : (known : List (List ℕ)) (old new : LoopValue (Talk M) S) (held : List (Option (Held S)))
+      (broken : Bool) (at : ℕ) → at < length old.places → ((h : Held S) → slice_get held at ≡ Some (Some h) → ⊥)
+      → new.places ≡ slice_set old.places at Empty → AreClientsSound agrees did known old held broken
+      → AreClientsSound agrees did known new held broken
+  sound_dropped known old new held broken at within none set sound =
+      sound_clear known old new held broken at Empty set tt (λ h is. absurd (none h is)) within sound
+
+  -- the same stands in each place
+  pub sound_same : (known : List (List ℕ)) (old new : LoopValue (Talk M) S) (held : List (Option (Held S)))
+      (broken : Bool) → new.places ≡ old.places → AreClientsSound agrees did known old held broken
+      → AreClientsSound agrees did known new held broken
+  sound_same known old new held broken same sound = record {
+    offers = sound.offers;
+    len = sound.len ∙ sym (ap (λ (l : List (Place (Talk M) S)). length l) same);
+    waits = λ i h is. subst (λ (l : List (Place (Talk M) S)). IsAwaitedAt l i) (sym same) (sound.waits i h is);
+    talks = λ runs i slot is. sound.talks runs i slot
+        (subst (λ (l : List (Place (Talk M) S)). slice_get l i ≡ Some (Open slot)) same is);
+  }
 
   pub emptied_at : (old new : List (Place (Talk M) S)) (at : ℕ) (x : Place (Talk M) S) → slice_get old at ≡ Some x
       → new ≡ slice_set old at Empty → slice_get new at ≡ Some Empty
@@ -1094,13 +1130,6 @@ newly_so {S} {E} {W} held after came same h = subst (λ (l : List (Option (Held 
 pub ended_later : (until : Option ℕ) (a b : ℕ) → a ≤ b → has_ended_by until a ≡ true → has_ended_by until b ≡ true
 ended_later None a b le h = absurd (false≢true h)
 ended_later (Some t) a b le h = le-leb t b (omega (arith, le, leb-true t a h))
-
--- the place that is told has ended
-pub over_as : {M S : Type 0} (wants : Talk M → Wants) (until : Option ℕ) (now : ℕ) (l : LoopValue (Talk M) S) (e : Ending)
-    → IsEnding wants until now l e → IsOverAs wants l.places e
-over_as wants until now l (ending.Ended at) h = h.0
-over_as wants until now l ending.TooLate h = tt
-over_as wants until now l ending.NoSlot h = tt
 
 -- what holds of all holds of what came
 pub always_so : {V F : Type 0} (result : Result V F) (P : Type 0) → P → IfOk result (λ value. P)

@@ -105,7 +105,7 @@ is_nothing_kind (UnderWay until) = ⊥
 
 module _ {M S : Type 0} (agrees : M → M → List Told → Type 0) (did : S → S → List Deed → Type 0) where
   -- a slot that stands there stood there before, with what is of the same kind
-  talked_on : (wants : Talk M → Wants) (from to : ℕ) (known : List (List ℕ)) (x : Place (Talk M) S)
+  pub talked_on : (wants : Talk M → Wants) (from to : ℕ) (known : List (List ℕ)) (x : Place (Talk M) S)
       (slot : Slot (Talk M) S) (lines : List (List ℕ))
       → HasGoneOn (agrees_talk agrees) wants did from to x (Open slot) lines
       → ((old : Slot (Talk M) S) → x ≡ Open old → IsTalkOf agrees did known old)

@@ -3,3 +3,4 @@ pub mod ClientLemmas
 pub mod CountLemmas
 pub mod KindLemmas
 pub mod NumberLemmas
+pub mod ServedLemmas

@@ -1,5 +1,5 @@
 -- The clients of a listener, in one loop: what stands in each place, what is played there, and what has happened.
-use Rattle.std.specs.Prelude.{◌≡◌, ◌⊎◌, ℕ, ⊤, Bool, true, false, List, [], ◌∷◌, ◌++◌, Option, None, Some, length}
+use Rattle.std.specs.Prelude.{◌≡◌, ◌≤◌, ◌⊎◌, ℕ, ⊤, Bool, true, false, List, [], ◌∷◌, ◌++◌, Option, None, Some, length}
 use Rattle.std.specs.Prelude.{map, slice_get, slice_set}
 use Rattle.std.specs.List.{concat, flat_map}
 use Rattle.ws_machines.specs.Told.{Told}
@@ -10,8 +10,9 @@ use Rattle.ws_loops.specs.Deeds.Deed.{Did}
 use Rattle.ws_loops.specs.Listeners.{AcceptDeed, HasHeardLast}
 use Rattle.ws_loops.specs.Listeners.AcceptDeed.{CouldNotGive, HadNoClient}
 use Rattle.ws_loops.specs.Looping.{LoopValue}
+use Rattle.ws_loops.specs.Loops.{AreServedInTime, HasGoneOn, IsServedInTime}
 use Rattle.ws_loops.specs.Paces.{has_ended_by, passes_at}
-use Rattle.ws_loops.specs.Places.{AreOccupied, IsOverAt}
+use Rattle.ws_loops.specs.Places.{AreEmpty, AreOccupied, IfOpen, IsOverAt, IsPlaceOver}
 use Rattle.ws_loops.specs.Sinks.{HasTakenLines, lines_at}
 use Rattle.ws_loops.specs.declared.listening.Arrival.{Arrival}
 use Rattle.ws_loops.specs.declared.listening.Arrival.TheVariants as arrival
@@ -23,7 +24,7 @@ use Rattle.ws_loops.specs.declared.slot.Slot.{Slot}
 use Rattle.ws_loops.specs.declared.watch.Watch.{Watch}
 use Rattle.ws_networks.specs.declared.bounds.Limits.{Limits}
 use Rattle.ws_upgrade.specs.Protocols.{AreOffers}
-use Rattle.ws_clients.specs.Talks.{IsAdmission, IsTalkOf, agrees_talk}
+use Rattle.ws_clients.specs.Talks.{IsAdmission, IsTalkOf, agrees_talk, wants_talk}
 use Rattle.ws_clients.specs.declared.clients.Event.{Event}
 use Rattle.ws_clients.specs.declared.clients.Event.TheVariants.{Deaf, Decided, Full, Gone, Played, TooLate}
 use Rattle.ws_clients.specs.declared.clients.Held.{Held}
@@ -161,6 +162,76 @@ abbrev pub PlayedOnly : {M S E W : Type 0} → List (Place (Talk M) S) → List 
     → Type 0
 PlayedOnly old new None = PlayNoMore old new
 PlayedOnly old new (Some event) = PlayNoMore old new × WasPlayed old event
+
+-- ---- what goes on in each place
+
+-- whatever stood in a place has gone on there, and no place was emptied or filled
+abbrev pub AllGoOn : {M S : Type 0} → (M → M → List Told → Type 0) → (M → Wants) → (S → S → List Deed → Type 0)
+    → ℕ → ℕ → List (Place (Talk M) S) → List (Place (Talk M) S) → Type 0
+AllGoOn {M} {S} agrees wants did from to old new = (at : ℕ) (was : Place (Talk M) S) → slice_get old at ≡ Some was
+    → (now : Place (Talk M) S) × (lines : List (List ℕ)) × (slice_get new at ≡ Some now)
+    × HasGoneOn (agrees_talk agrees) (wants_talk wants) did from to was now lines
+
+-- a request is read there, or something is played; or memory ran out for that
+abbrev pub IsServedOn : {M S : Type 0} → Place (Talk M) S → Type 0
+IsServedOn Empty = ⊥
+IsServedOn (Open slot) = IsLeaver slot.machine → ⊥
+IsServedOn (Pending watch) = ⊥
+IsServedOn Broken = ⊤
+
+-- it is told what came of what stood so in this place: that the client is gone just where memory ran out for it
+abbrev pub TellsPlace : {M S E W : Type 0} → ℕ → Place (Talk M) S → Option (Event E W) → Type 0
+TellsPlace at (Open slot) (Some (Decided other admission)) = other ≡ at
+TellsPlace at (Open slot) (Some (Played other end)) = other ≡ at
+TellsPlace at Broken (Some (Gone other number)) = other ≡ at
+TellsPlace at place told = ⊥
+
+-- Whatever is read or played has gone on in its place by now: there it stands so, or this tells what came of it. Memory
+-- ran out for no client but where something was due for it.
+abbrev pub ServesOn : {M S E W : Type 0} → (M → M → List Told → Type 0) → (M → Wants) → (S → S → List Deed → Type 0)
+    → ℕ → ℕ → List (Place (Talk M) S) → List (Place (Talk M) S) → Option (Event E W) → Type 0
+ServesOn {M} {S} agrees wants did from to old new told = (at : ℕ) (was : Place (Talk M) S)
+    → slice_get old at ≡ Some was → IsServedOn was → (now : Place (Talk M) S) × (lines : List (List ℕ))
+    × HasGoneOn (agrees_talk agrees) (wants_talk wants) did from to was now lines
+    × (((slice_get new at ≡ Some now) × IsServedOn now) ⊎ TellsPlace at now told)
+
+-- all other places stand as they did
+abbrev pub RestBut : {M S : Type 0} → ℕ → List (Place M S) → List (Place M S) → Type 0
+RestBut at old new = (other : ℕ) → (other ≡ at → ⊥) → slice_get new other ≡ slice_get old other
+
+-- something is played to its client, or it is left
+abbrev pub is_busy : {M : Type 0} → Talk M → Bool
+is_busy (Admits machine) = false
+is_busy (Plays machine) = true
+is_busy (Leaves machine) = true
+
+-- each of these still stands where it did
+abbrev pub BusyStay : {M S : Type 0} → List (Place (Talk M) S) → List (Place (Talk M) S) → Type 0
+BusyStay {M} {S} old new = (at : ℕ) (slot : Slot (Talk M) S) → slice_get old at ≡ Some (Open slot)
+    → is_busy slot.machine ≡ true → slice_get new at ≡ Some (Open slot)
+
+-- the slot in a place that is one of these, if one is
+abbrev pub IsBusyOf : {M S : Type 0} → Place (Talk M) S → Option (Slot (Talk M) S) → Type 0
+IsBusyOf place None = IfOpen place (λ slot. is_busy slot.machine ≡ false)
+IsBusyOf place (Some slot) = (place ≡ Open slot) × (is_busy slot.machine ≡ true)
+
+-- What went on in this slot was served until it has ended, or memory ran out for it; or two seconds have passed, and it
+-- was served by now.
+abbrev pub IsSeenOut : {M S : Type 0} → (M → M → List Told → Type 0) → (M → Wants) → (S → S → List Deed → Type 0)
+    → ℕ → ℕ → Slot (Talk M) S → Type 0
+IsSeenOut {M} {S} agrees wants did from to slot = (now : Place (Talk M) S) × (lines : List (List ℕ)) × (by : ℕ)
+    × (by ≤ to) × HasGoneOn (agrees_talk agrees) (wants_talk wants) did from by (Open slot) now lines
+    × (IsPlaceOver (wants_talk wants) now ⊎ ((has_ended_by (passes_at (Some 2000) from) to ≡ true)
+    × IsServedInTime (agrees_talk agrees) (wants_talk wants) did to now))
+
+-- so it is with each that was played, or by which a client is left
+abbrev pub AreSeenOut : {M S : Type 0} → (M → M → List Told → Type 0) → (M → Wants) → (S → S → List Deed → Type 0)
+    → ℕ → ℕ → List (Place (Talk M) S) → Type 0
+AreSeenOut {M} {S} agrees wants did from to places = (at : ℕ) (slot : Slot (Talk M) S)
+    → slice_get places at ≡ Some (Open slot) → is_busy slot.machine ≡ true
+    → IsSeenOut agrees wants did from to slot
+
+-- ---- what comes of what is played
 
 -- This tells what came of what was played in this place, where just this happened there: it follows from what its
 -- machine was told, and that is what its stream did; or that memory ran out for it.
@@ -315,11 +386,13 @@ HasCome wants did heard now until listener l (arrival.NotAccepted why) = IsDeaf 
 HasCome wants did heard now until listener l arrival.TooLate = (has_ended_by until now ≡ true)
     × WasInVain heard listener l.places l.deaf
 
--- what went on in the place that is told has ended
-abbrev pub IsOverAs : {M S : Type 0} → (Talk M → Wants) → List (Place (Talk M) S) → Ending → Type 0
-IsOverAs wants places (ending.Ended at) = IsOverAt wants places at
-IsOverAs wants places ending.TooLate = ⊤
-IsOverAs wants places ending.NoSlot = ⊤
+-- what went on in the place that is told has ended; the time has come, and all were served by then; or nobody is there
+abbrev pub IsOverAs : {M S : Type 0} → (M → M → List Told → Type 0) → (M → Wants) → (S → S → List Deed → Type 0)
+    → Option ℕ → ℕ → List (Place (Talk M) S) → Ending → Type 0
+IsOverAs agrees wants did until now places (ending.Ended at) = IsOverAt (wants_talk wants) places at
+IsOverAs agrees wants did until now places ending.TooLate = (has_ended_by until now ≡ true)
+    × AreServedInTime (agrees_talk agrees) (wants_talk wants) did now places
+IsOverAs agrees wants did until now places ending.NoSlot = AreEmpty places
 
 -- ---- what is kept
 

@@ -1,15 +1,17 @@
 //! The clients of a listener, in one loop. Of one whose request was decided, or to which all was played, the stream is
 //! held beside its place, until it is said what is next for it.
 
-ghost use Rattle.std.specs.Prelude.{◌≡◌, ◌<◌, ◌+◌, ◌⊎◌, ℕ, [], true, false, None, Some, IfOk, IfSome, OnOk, length};
-ghost use Rattle.std.specs.Prelude.{map, slice_get, slice_set};
+ghost use Rattle.std.specs.Prelude.{◌≡◌, ◌<◌, ◌≤◌, ◌+◌, ◌⊎◌, ℕ, [], true, false, None, Some, IfOk, IfSome, OnOk};
+ghost use Rattle.std.specs.Prelude.{length, map, slice_get, slice_set};
 ghost use Rattle.ws_machines.specs.Machines.{HasNext};
 ghost use Rattle.ws_loops.specs.Listeners.{HasHeardFor};
 ghost use Rattle.ws_loops.specs.Places.{IsOverAt};
 ghost use Rattle.ws_loops.specs.declared.places.Place.TheVariants.{Empty, Open};
 ghost use Rattle.ws_upgrade.specs.Protocols.{AreOffers};
 ghost use Rattle.ws_clients.specs.Talks.{IsTalkOf, wants_talk};
-ghost use Rattle.ws_clients.specs.Clients.{AreClientsSound, AreNoneHeld, EndsAtOnce, EndsSlot, HasBecome, HasCome};
+ghost use Rattle.ws_clients.specs.Clients.{AllGoOn, AreClientsSound, AreNoneHeld, AreSeenOut, BusyStay, EndsAtOnce};
+ghost use Rattle.ws_clients.specs.Clients.{EndsSlot, HasBecome, HasCome, IsBusyOf, IsServedOn, RestBut, ServesOn};
+ghost use Rattle.ws_clients.specs.Clients.{TellsPlace, is_busy};
 ghost use Rattle.ws_clients.specs.Clients.{HasGoneOnTo, HoldsBehind, IsAwaitedAt, IsHeldAt, IsLeftAt, IsLimitAt};
 ghost use Rattle.ws_clients.specs.Clients.{TellsPlayed};
 ghost use Rattle.ws_clients.specs.Clients.{IsNewlyHeld, IsOfPlace, IsOverAs, IsPlaying, IsTakenOut, KeepsPlays};
@@ -87,8 +89,6 @@ pub(crate) struct Inside<'a, M: Machine + Drop, S> {
     pub(crate) numbers: Vec<Option<u64>>,
     /// So many are there.
     pub(crate) there: usize,
-    /// To so many something is played, or they are left.
-    pub(crate) busy: usize,
     /// The loop has stopped by a fault: nothing is known of what goes on in it.
     pub(crate) is_broken: bool,
 }
@@ -175,6 +175,8 @@ where
             sink.old sink.new (Some event)) }
         ensures played { IfOk result (TellsPlayed S.did M.gives self.new.held) }
         ensures only { IfOk result (λ event. PlayedOnly self.old.places self.new.places (Some event)) }
+        ensures goes_on { IfOk result (λ event. ServesOn M.agrees M.wants S.did (P.time poller.old)
+            (P.time poller.new) self.old.places self.new.places (Some event)) }
         ensures takes { IfOk result (λ event. TakesIn L.did listener.old listener.new self.old self.new event) }
         ensures apart { IfOk result (λ event. AreNumbers self.new.taken self.new.numbers) }
         ensures known { OnOk result (self.new.known ≡ self.old.known) }
@@ -219,8 +221,8 @@ where
         leave_inside(&mut self.inside, at, now);
     }
 
-    /// No client is taken any more: those that are left are read to the end, and what is played to others may end, for
-    /// a while.
+    /// No client is taken any more, and those who wait are dropped. What is played to others goes on to its end, and
+    /// who is left is read to the end, for two seconds at most.
     pub fn end<P: Poller, K: LineSink>(
         &mut self,
         poller: &mut P,
@@ -228,6 +230,8 @@ where
         room: &mut [u8],
     ) -> Result<(), K::Fault>
         requires room { 0 < length room.old }
+        ensures ends { IfOk result (λ done. AreSeenOut M.agrees M.wants S.did (P.time poller.old) (P.time poller.new)
+            self.old.places) }
         ensures known { self.new.known ≡ self.old.known }
         ensures limits { self.new.limits ≡ self.old.limits }
         ensures taken { self.new.taken ≡ self.old.taken }
@@ -267,7 +271,6 @@ fn new_inside<'a, M: Machine + Drop, S: NonBlocking + Drop>(
         taken: 0,
         numbers,
         there: 0,
-        busy: 0,
         is_broken: false,
     })
 }
@@ -321,6 +324,8 @@ fn next_inside<M: Machine + Drop, L: Listener, P: Poller, K: LineSink>(
         inside.new.all.places sink.old sink.new (Some event)) }
     ensures played { IfOk result (TellsPlayed L.Client.did M.gives (held_streams inside.new.held.items)) }
     ensures only { IfOk result (λ event. PlayedOnly inside.old.all.places inside.new.all.places (Some event)) }
+    ensures goes_on { IfOk result (λ event. ServesOn M.agrees M.wants L.Client.did (P.time poller.old)
+        (P.time poller.new) inside.old.all.places inside.new.all.places (Some event)) }
     ensures takes { IfOk result (λ event. TakesClients L.did listener.old listener.new inside.old.taken
         inside.old.numbers.items inside.new.taken inside.new.numbers.items (Some event)) }
     ensures known { OnOk result (inside.new.known ≡ inside.old.known) }
@@ -370,6 +375,9 @@ fn wait_inside<M: Machine + Drop, L: Listener, P: Poller, K: LineSink>(
     ensures played { IfOk result (λ came. IfSome came (TellsPlayed L.Client.did M.gives
         (held_streams inside.new.held.items))) }
     ensures only { IfOk result (PlayedOnly inside.old.all.places inside.new.all.places) }
+    ensures goes_on { IfOk result (ServesOn M.agrees M.wants L.Client.did (P.time poller.old) (P.time poller.new)
+        inside.old.all.places inside.new.all.places) }
+    ensures later { IfOk result (λ came. P.time poller.old ≤ P.time poller.new) }
     ensures takes { IfOk result (TakesClients L.did listener.old listener.new inside.old.taken
         inside.old.numbers.items inside.new.taken inside.new.numbers.items) }
     ensures known { OnOk result (inside.new.known ≡ inside.old.known) }
@@ -420,6 +428,9 @@ fn run_all<M: Machine + Drop, L: Listener, P: Poller, K: LineSink>(
     ensures plays { OnOk result (HasGoneOnTo K.heard M.agrees L.Client.did inside.old.all.places inside.new.all.places
         sink.old sink.new) }
     ensures only { OnOk result (PlayNoMore inside.old.all.places inside.new.all.places) }
+    ensures goes_on { OnOk result (AllGoOn M.agrees M.wants L.Client.did (P.time poller.old) (P.time poller.new)
+        inside.old.all.places inside.new.all.places) }
+    ensures later { OnOk result (P.time poller.old ≤ P.time poller.new) }
     ensures asked { IfOk result (λ arrival. HasHeardFor L.did listener.old listener.new inside.new.all arrival) }
     ensures taken { inside.new.taken ≡ inside.old.taken }
     ensures numbers { inside.new.numbers ≡ inside.old.numbers }
@@ -509,6 +520,7 @@ fn receive<M: Machine + Drop, S: NonBlocking + Drop>(
         inside.old.is_broken }
     ensures others { KeepsPlays M.agrees S.did inside.old.all.places inside.new.all.places }
     ensures only { PlayNoMore inside.old.all.places inside.new.all.places }
+    ensures rest { RestBut at inside.old.all.places inside.new.all.places }
     ensures taken { OnOk result (inside.new.taken ≡ inside.old.taken + 1) }
     ensures numbers { OnOk result (inside.new.numbers.items
         ≡ slice_set inside.old.numbers.items at (Some (inside.old.taken + 1))) }
@@ -562,6 +574,9 @@ fn ended_at<M: Machine + Drop, S: NonBlocking + Drop, W>(
     ensures played { IfOk result (λ came. IfSome came (TellsPlayed S.did M.gives
         (held_streams inside.new.held.items))) }
     ensures only { IfOk result (PlayedOnly inside.old.all.places inside.new.all.places) }
+    ensures rest { OnOk result (RestBut at inside.old.all.places inside.new.all.places) }
+    ensures tells { IfOk result (λ came. (was : _) → slice_get inside.old.all.places at ≡ Some was → IsServedOn was
+        → TellsPlace at was came) }
     ensures taken { inside.new.taken ≡ inside.old.taken }
     ensures of { IfOk result (IsOfNumber inside.old.numbers.items) }
     ensures behind { IfOk result (λ came. inside.new.numbers.items ≡ numbers_behind came inside.old.numbers.items) }
@@ -621,6 +636,8 @@ fn end_slot<M: Machine + Drop, S: NonBlocking + Drop, W>(
     ensures of { IfOk result (IsOfNumber inside.old.numbers.items) }
     ensures behind { IfOk result (λ came. inside.new.numbers.items ≡ numbers_behind came inside.old.numbers.items) }
     ensures only { PlayNoMore inside.old.all.places inside.new.all.places }
+    ensures rest { OnOk result (RestBut at inside.old.all.places inside.new.all.places) }
+    ensures tells { IfOk result (λ came. IsServedOn (Open slot.entry) → TellsPlace at (Open slot.entry) came) }
     ensures player { IfOk result (λ came. IfSome came (IsOfPlayer slot.entry.machine)) }
     ensures taken { inside.new.taken ≡ inside.old.taken }
     ensures numbers { inside.new.numbers ≡ inside.old.numbers }
@@ -645,12 +662,10 @@ fn end_slot<M: Machine + Drop, S: NonBlocking + Drop, W>(
         }
         Talk::Plays(machine) => {
             hold(inside, at, stream, pace.deadline, now);
-            inside.busy = inside.busy.saturating_sub(1);
             let end = machine.into_end()?;
             Ok(Some(Event::Played(at, end)))
         }
         Talk::Leaves(_) => {
-            inside.busy = inside.busy.saturating_sub(1);
             inside.there = inside.there.saturating_sub(1);
             Ok(None)
         }
@@ -676,6 +691,7 @@ fn hold<M: Machine + Drop, S: NonBlocking + Drop>(
     ensures held { StayHeld (held_streams inside.old.held.items) (held_streams inside.new.held.items) }
     ensures others { KeepsPlays M.agrees S.did inside.old.all.places inside.new.all.places }
     ensures only { PlayNoMore inside.old.all.places inside.new.all.places }
+    ensures rest { RestBut at inside.old.all.places inside.new.all.places }
     ensures taken { inside.new.taken ≡ inside.old.taken }
     ensures numbers { inside.new.numbers ≡ inside.old.numbers }
     ensures known { inside.new.known ≡ inside.old.known }
@@ -740,7 +756,6 @@ fn play_inside<M: Machine + Drop, S: NonBlocking + Drop>(
         pace: Pace::begun(now, inside.limits.limit, deadline),
     };
     inside.all.open(at, slot);
-    inside.busy = inside.busy.saturating_add(1);
     true
 }
 
@@ -781,6 +796,7 @@ fn leave_inside<M: Machine + Drop, S: NonBlocking + Drop>(
     ensures held { held_streams inside.new.held.items ≡ slice_set (held_streams inside.old.held.items) at None }
     ensures others { KeepsPlays M.agrees S.did inside.old.all.places inside.new.all.places }
     ensures only { PlayNoMore inside.old.all.places inside.new.all.places }
+    ensures rest { RestBut at inside.old.all.places inside.new.all.places }
     ensures taken { inside.new.taken ≡ inside.old.taken }
     ensures numbers { inside.new.numbers.items
         ≡ numbers_left (stream_at (held_streams inside.old.held.items) at) at inside.old.numbers.items }
@@ -804,10 +820,9 @@ fn leave_inside<M: Machine + Drop, S: NonBlocking + Drop>(
         pace: Pace::begun(now, None, Some(now.saturating_add(LEAVING))),
     };
     inside.all.open(at, slot);
-    inside.busy = inside.busy.saturating_add(1);
 }
 
-/// Reads those that are left to the end, and lets what is played to others end, for a while.
+/// Drops those who wait, reads those that are left to the end, and plays to the others to its end, for a while.
 fn end_inside<M: Machine + Drop, S: NonBlocking + Drop, P: Poller, K: LineSink>(
     inside: &mut Inside<'_, M, S>,
     poller: &mut P,
@@ -821,6 +836,8 @@ where
         inside.old.all inside.old.held.items inside.old.is_broken }
     requires counted { AreNumbersSound inside.old.all.places inside.old.taken inside.old.numbers.items
         inside.old.is_broken }
+    ensures ends { IfOk result (λ done. AreSeenOut M.agrees M.wants S.did (P.time poller.old) (P.time poller.new)
+        inside.old.all.places) }
     ensures known { inside.new.known ≡ inside.old.known }
     ensures limits { inside.new.limits ≡ inside.old.limits }
     ensures taken { inside.new.taken ≡ inside.old.taken }
@@ -829,9 +846,10 @@ where
     ensures counted { AreNumbersSound inside.new.all.places inside.new.taken inside.new.numbers.items
         inside.new.is_broken }
 {
+    drop_idle(inside);
     let until = poller.now().saturating_add(ENDING);
     let mut left = u64::MAX;
-    while left > 0 && inside.busy > 0 && !inside.is_broken {
+    while left > 0 && !inside.is_broken {
         left -= 1;
         let ending = run_on(inside, poller, sink, Some(until), room)?;
         match ending {
@@ -839,10 +857,94 @@ where
                 let now = poller.now();
                 end_at(inside, at, now)?;
             }
-            Ending::TooLate | Ending::NoSlot => return Ok(()),
+            Ending::TooLate => return Ok(()),
+            Ending::NoSlot => return Ok(()),
         }
     }
-    Ok(())
+    Err(K::Fault::from(WaitFailed))
+}
+
+/// Only those stay to whom something is played, and who are left.
+fn drop_idle<M: Machine + Drop, S: NonBlocking + Drop>(inside: &mut Inside<'_, M, S>)
+    requires whole { AreClientsSound M.agrees S.did (map (λ name. name.now) inside.old.known.now)
+        inside.old.all inside.old.held.items inside.old.is_broken }
+    requires counted { AreNumbersSound inside.old.all.places inside.old.taken inside.old.numbers.items
+        inside.old.is_broken }
+    ensures busy { BusyStay inside.old.all.places inside.new.all.places }
+    ensures known { inside.new.known ≡ inside.old.known }
+    ensures limits { inside.new.limits ≡ inside.old.limits }
+    ensures taken { inside.new.taken ≡ inside.old.taken }
+    ensures runs { inside.new.is_broken ≡ inside.old.is_broken }
+    ensures whole { AreClientsSound M.agrees S.did (map (λ name. name.now) inside.new.known.now)
+        inside.new.all inside.new.held.items inside.new.is_broken }
+    ensures counted { AreNumbersSound inside.new.all.places inside.new.taken inside.new.numbers.items
+        inside.new.is_broken }
+{
+    inside.there = 0;
+    let len = inside.all.len();
+    let mut at = 0;
+    while at < len {
+        drop_idle_at(inside, at);
+        at += 1;
+    }
+}
+
+/// In this place one only stays if something is played to it, or it is left.
+fn drop_idle_at<M: Machine + Drop, S: NonBlocking + Drop>(inside: &mut Inside<'_, M, S>, at: usize)
+    requires at { at < length inside.old.all.places }
+    requires whole { AreClientsSound M.agrees S.did (map (λ name. name.now) inside.old.known.now)
+        inside.old.all inside.old.held.items inside.old.is_broken }
+    requires counted { AreNumbersSound inside.old.all.places inside.old.taken inside.old.numbers.items
+        inside.old.is_broken }
+    ensures len { length inside.new.all.places ≡ length inside.old.all.places }
+    ensures busy { BusyStay inside.old.all.places inside.new.all.places }
+    ensures known { inside.new.known ≡ inside.old.known }
+    ensures limits { inside.new.limits ≡ inside.old.limits }
+    ensures taken { inside.new.taken ≡ inside.old.taken }
+    ensures runs { inside.new.is_broken ≡ inside.old.is_broken }
+    ensures whole { AreClientsSound M.agrees S.did (map (λ name. name.now) inside.new.known.now)
+        inside.new.all inside.new.held.items inside.new.is_broken }
+    ensures counted { AreNumbersSound inside.new.all.places inside.new.taken inside.new.numbers.items
+        inside.new.is_broken }
+{
+    let _ = taken_of(&mut inside.held, at);
+    match busy_of(inside.all.take(at)) {
+        Some(slot) => {
+            inside.all.put(at, slot);
+            inside.there = inside.there.saturating_add(1);
+        }
+        None => {
+            let _ = number_taken(&mut inside.numbers, at);
+        }
+    }
+}
+
+/// What stands in this place, if something is played to its client, or it is left.
+fn busy_of<'a, M: Machine + Drop, S: NonBlocking + Drop>(
+    place: Place<Talk<'a, M>, S>,
+) -> Option<Slot<Talk<'a, M>, S>>
+    ensures { IsBusyOf place.entry result }
+{
+    match place {
+        Place::Open(slot) => {
+            if is_busy(&slot.machine) {
+                Some(slot)
+            } else {
+                None
+            }
+        }
+        Place::Empty | Place::Pending(_) | Place::Broken => None,
+    }
+}
+
+/// Something is played to its client, or it is left.
+fn is_busy<M>(talk: &Talk<'_, M>) -> bool
+    ensures { result ≡ is_busy talk.now }
+{
+    match talk {
+        Talk::Admits(_) => false,
+        Talk::Plays(_) | Talk::Leaves(_) => true,
+    }
 }
 
 /// Serves all clients until one of them has ended, or this time has come. Behind a fault nothing is known of what goes
@@ -860,7 +962,10 @@ fn run_on<M: Machine + Drop, S: NonBlocking + Drop, P: Poller, K: LineSink>(
         inside.old.all inside.old.held.items inside.old.is_broken }
     requires counted { AreNumbersSound inside.old.all.places inside.old.taken inside.old.numbers.items
         inside.old.is_broken }
-    ensures over { IfOk result (λ ending. IsOverAs (wants_talk M.wants) inside.new.all.places ending) }
+    ensures over { IfOk result (IsOverAs M.agrees M.wants S.did until (P.time poller.new) inside.new.all.places) }
+    ensures goes_on { OnOk result (AllGoOn M.agrees M.wants S.did (P.time poller.old) (P.time poller.new)
+        inside.old.all.places inside.new.all.places) }
+    ensures later { OnOk result (P.time poller.old ≤ P.time poller.new) }
     ensures known { inside.new.known ≡ inside.old.known }
     ensures limits { inside.new.limits ≡ inside.old.limits }
     ensures taken { inside.new.taken ≡ inside.old.taken }
@@ -893,6 +998,8 @@ where
         inside.old.all inside.old.held.items inside.old.is_broken }
     requires counted { AreNumbersSound inside.old.all.places inside.old.taken inside.old.numbers.items
         inside.old.is_broken }
+    ensures rest { OnOk result (RestBut at inside.old.all.places inside.new.all.places) }
+    ensures runs { inside.new.is_broken ≡ inside.old.is_broken }
     ensures known { inside.new.known ≡ inside.old.known }
     ensures limits { inside.new.limits ≡ inside.old.limits }
     ensures taken { inside.new.taken ≡ inside.old.taken }
@@ -901,12 +1008,7 @@ where
     ensures counted { AreNumbersSound inside.new.all.places inside.new.taken inside.new.numbers.items
         inside.new.is_broken }
 {
-    let came: Option<Event<M::End, ()>> = ended_at(inside, at, now)?;
-    match came {
-        Some(Event::Decided(at, _) | Event::Played(at, _)) => {
-            leave_inside(inside, at, now);
-            Ok(())
-        }
-        Some(Event::Gone(_, _) | Event::TooLate | Event::Full(_) | Event::Deaf(_)) | None => Ok(()),
-    }
+    let _: Option<Event<M::End, ()>> = ended_at(inside, at, now)?;
+    leave_inside(inside, at, now);
+    Ok(())
 }

@@ -1,7 +1,7 @@
 -- Those who come to a listener stay those who are tested, whatever is done with them; who waits for its turn, in which
 -- order; and for how long a request is waited for.
-use Rattle.std.proofs.Common.{◌≡◌, ◌∙◌, ℕ, true, false, List, [], ◌∷◌, ◌++◌, Option, None, All, ap, append_assoc}
-use Rattle.std.proofs.Common.{refl, subst, sym}
+use Rattle.std.proofs.Common.{◌≡◌, ◌∙◌, ℕ, true, false, List, [], ◌∷◌, ◌++◌, Option, None, Some, All, ap, append_assoc}
+use Rattle.std.proofs.Common.{append-nil, refl, subst, sym}
 use Rattle.std.proofs.lemmas.Bool.{false≢true}
 use Rattle.std.proofs.lemmas.List.Elements.{All-push}
 use Rattle.std.specs.Prelude.{IsTrue, Vec}
@@ -12,20 +12,23 @@ use Rattle.ws_clients.specs.Talks.{IsAdmission}
 use Rattle.ws_clients.specs.declared.clients.Event.{Event}
 use Rattle.ws_clients.specs.declared.clients.Event.TheVariants as events
 use Rattle.ws_handshake.specs.declared.admission.Admission.{Admission}
+use Rattle.ws_handshake.specs.declared.admission.Admission.TheVariants as admission
 use Rattle.ws_loops.specs.Deeds.{Deed}
 use Rattle.ws_loops.specs.Listeners.{AcceptDeed}
 use Rattle.ws_loops.specs.Paces.{has_ended_by}
+use Rattle.ws_paths.specs.Paths.{number_to_run}
 use Rattle.ws_paths.specs.Standings.{StandingValue}
+use Rattle.ws_tester.specs.Following.{TesterValue}
 use Rattle.wst_commands.specs.TimeLimits.{is_limited}
 use Rattle.wst_commands.specs.declared.time_limit.TimeLimit.{TimeLimit}
 use Rattle.wst_commands.specs.declared.time_limit.TimeLimit.TheVariants.{Seconds, Unlimited}
 use Rattle.wst_testing.specs.Servers.{DidThese}
 use Rattle.wst_commands.specs.TimeLimits.{milliseconds_of}
-use Rattle.wst_clients.specs.Turns.{IsWhyNone}
+use Rattle.wst_clients.specs.Turns.{IsAdmitted, IsWhyNone, WaitsOrHears}
 use Rattle.wst_clients.specs.Visits.{known_by}
 use Rattle.wst_clients.proofs.TurnLemmas.{admitted}
 use Rattle.wst_clients.specs.Visitors.{AreTestedBy, AreVisitors, AsksNoCase, HaveWaited, IsEndAskedSo}
-use Rattle.wst_clients.specs.Visitors.{PassedOver, StayAll, WaitsLast}
+use Rattle.wst_clients.specs.Visitors.{PassedOver, StayAll, WaitOn, WaitsBehind, WaitsLast}
 use Rattle.wst_clients.specs.Visitors.{WasAccepted, wait_until}
 use Rattle.wst_clients.specs.declared.visiting.NoVisit.TheVariants.{Never, TooLate}
 use Rattle.wst_clients.specs.declared.visiting.VisitRules.{VisitRules}
@@ -154,3 +157,32 @@ module _ (rules : VisitRules) (standing : StandingValue) where
   pub over_same : (all left other : List Waiting) → PassedOver rules standing all left → left ≡ other
       → PassedOver rules standing all other
   over_same all left other over same = subst (λ (l : List Waiting). PassedOver rules standing all l) same over
+
+-- those who wait are as they were
+pub waits_same : (old new : Vec Waiting Global) → new ≡ old → WaitOn old.items new.items
+waits_same old new same = ([], ap (λ (v : Vec Waiting Global). v.items) same ∙ sym (append-nil old.items))
+
+pub waits_then : (a b c : List Waiting) → WaitOn a b → WaitOn b c → WaitOn a c
+waits_then a b c (one, is) (other, next) =
+    (one ++ other, next ∙ (ap (λ (l : List Waiting). l ++ other) is ∙ append_assoc a one other))
+
+waits_behind : (ending : Ending) (at : ℕ) (request : AcceptedRequest) (old new : List Waiting)
+    → WaitsBehind ending at request old new → WaitOn old new
+waits_behind NotAsked at request old new is = (record { at = at; request = request } ∷ [], is)
+waits_behind (Answering other) at request old new same = ([], same ∙ sym (append-nil old))
+waits_behind Answered at request old new same = ([], same ∙ sym (append-nil old))
+
+-- and one who was admitted may wait behind them
+pub waits_admitted : {L P E S W : Type 0} (did : S → S → List Deed → Type 0) (rules : VisitRules)
+    (standing : StandingValue) (at : ℕ) (came : Admission) (old new : Visitors TesterValue L P E S W)
+    → IsAdmitted did rules standing at came old new → WaitOn old.waiting.items new.waiting.items
+waits_admitted {L} {P} {E} {S} {W} did rules standing at (admission.Accepted request) old new (purpose, asks, taken) =
+    by (number_to_run purpose) taken
+  where
+    by : (number : Option ℕ) → WaitsOrHears did rules standing purpose number at request old new
+        → WaitOn old.waiting.items new.waiting.items
+    by None (same, asked, there) = ([], same ∙ sym (append-nil old.waiting.items))
+    by (Some number) waits = waits_behind old.ending at request old.waiting.items new.waiting.items waits
+waits_admitted did rules standing at (admission.Refused fault) old new same =
+    ([], same ∙ sym (append-nil old.waiting.items))
+waits_admitted did rules standing at admission.Lost old new same = ([], same ∙ sym (append-nil old.waiting.items))

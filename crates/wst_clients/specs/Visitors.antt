@@ -104,6 +104,10 @@ WaitsBehind NotAsked at request old new = WaitsLast at request old new
 WaitsBehind (Answering other) at request old new = new ≡ old
 WaitsBehind Answered at request old new = new ≡ old
 
+-- those who waited wait on, in their order, and others may behind them
+abbrev pub WaitOn : List Waiting → List Waiting → Type 0
+WaitOn old new = (more : List Waiting) × (new ≡ old ++ more)
+
 -- what a request asks for while the cases stand so
 abbrev pub AsksNow : VisitRules → StandingValue → AcceptedRequest → Purpose → Type 0
 AsksNow rules standing request purpose =

@@ -24,7 +24,7 @@ ghost use Rattle.wst_clients.specs.Turns.{AsksForCase, IsAdmitted, IsPlayedSo, I
 ghost use Rattle.wst_clients.specs.Turns.{IsTurnAt, IsTurnOf, IsWhyNone, RunsOn, RunsThere, RunsTurn};
 ghost use Rattle.wst_clients.specs.Turns.{TakesFirst, TakesNext, TellsThere, met_clients, unmet_as};
 ghost use Rattle.wst_clients.specs.Visitors.{AreHeld, AreTestedBy, KeepsQueue, NobodyAt, PlayOn, StayHeldBut};
-ghost use Rattle.wst_clients.specs.Visitors.{StayHeldWith, StayVisitors, StayWhere, WasAccepted, WasEndAsked};
+ghost use Rattle.wst_clients.specs.Visitors.{StayHeldWith, StayVisitors, StayWhere, WaitOn, WasAccepted, WasEndAsked};
 ghost use Rattle.wst_clients.specs.Visitors.{ending_for};
 ghost use Rattle.wst_clients.specs.Visits.{BeginsScript, BreaksTurn, CanBeVisited, HavePassed, IsInside};
 ghost use Rattle.wst_clients.specs.Visits.{IsTextFor, TellsFor};
@@ -177,6 +177,7 @@ fn run_turn<L: Listener + Drop, P: Poller + Drop, F: Write>(
     ensures played { IfOk result
         (IsPlayedTo L.Client.did round.entry.rules.now round.entry.standing.now purpose) }
     ensures since { IfOk result (λ ran. visitors.new.since ≡ P.time visitors.new.poller) }
+    ensures queue { OnOk result (WaitOn visitors.old.waiting.items visitors.new.waiting.items) }
     ensures still { StaysFailed faults.old faults.new }
 {
     match case_for(round.rules.cases, purpose) {
@@ -310,6 +311,7 @@ fn run_at<L: Listener + Drop, P: Poller + Drop, F: Write>(
     requires goes_on { HasNext (wanted_in tester.run) }
     ensures runs { IfOk result (RunsThere L.Client.did visitors.old.clients.held at tester.run) }
     ensures since { IfOk result (λ ran. visitors.new.since ≡ P.time visitors.new.poller) }
+    ensures queue { OnOk result (WaitOn visitors.old.waiting.items visitors.new.waiting.items) }
     ensures passed { HavePassed met_clients round.entry.rules.now round.entry.standing.now
         (watched F.contents faults.old faults.new) }
     ensures are { OnOk result (AreTestedBy round.entry.rules.now visitors.new) }
@@ -343,6 +345,7 @@ fn run_on<L: Listener + Drop, P: Poller + Drop, F: Write>(
     ensures runs { IfOk result
         (RunsOn L.Client.did visitors.old.clients.places visitors.new.clients.places at) }
     ensures since { IfOk result (λ came. IfSome came (λ ran. visitors.new.since ≡ P.time visitors.new.poller)) }
+    ensures queue { OnOk result (WaitOn visitors.old.waiting.items visitors.new.waiting.items) }
     ensures passed { HavePassed met_clients round.entry.rules.now round.entry.standing.now
         (watched F.contents faults.old faults.new) }
     ensures are { OnOk result (AreTestedBy round.entry.rules.now visitors.new) }

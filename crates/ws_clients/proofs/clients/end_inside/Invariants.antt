@@ -2,10 +2,13 @@
 use Rattle.std.proofs.Common.{◌≡◌, ◌<◌, Bor, List, length, map, ℕ}
 use Rattle.ws_clients.specs.Clients.{AreClientsSound}
 use Rattle.ws_clients.specs.Numbers.{AreNumbersSound}
+use Rattle.ws_clients.proofs.ServedLemmas.{GoesOut}
 use Rattle.ws_clients.proofs.clients.end_inside.Given as goal
 
 abbrev pub invariant-loop-left : goal.invariant-loop-left
 invariant-loop-left g l = record {
+  goes_out : GoesOut g.M.Machine.agrees g.M.Machine.wants g.S.NonBlocking.did (g.P.Poller.time l.fn.poller)
+      (g.P.Poller.time l.poller) l.fn.inside.all.places l.inside.all.places;
   room : 0 < length l.room;
   whole : AreClientsSound g.M.Machine.agrees g.S.NonBlocking.did
       (map {A = Bor (List ℕ)} {B = List ℕ} (λ name. name.now) l.inside.known.now) l.inside.all l.inside.held.items

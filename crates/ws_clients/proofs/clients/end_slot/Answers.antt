@@ -1,11 +1,12 @@
 -- What came of what was read or played in the slot; its stream is held.
 use Rattle.std.proofs.Common.{ap, refl, subst, sym}
 use Rattle.ws_loops.specs.declared.places.Place.TheVariants.{Empty, Open}
-use Rattle.ws_clients.specs.Clients.{IsPlayer, held_streams}
+use Rattle.ws_clients.specs.Clients.{IsLeaver, IsPlayer, held_streams}
 use Rattle.ws_clients.specs.Numbers.{IsNumberOf, client_number}
 use Rattle.ws_clients.proofs.ClientLemmas.{admitted, admitted_held, ends_slot, no_stream, played_held, none_waits, nothing_admitted}
 use Rattle.ws_clients.proofs.ClientLemmas.{nothing_left, stay_same}
 use Rattle.ws_clients.proofs.KindLemmas.{but_set, number_there, numbers_but, numbers_empty, only_same}
+use Rattle.ws_clients.proofs.ServedLemmas.{rest_same}
 use Rattle.ws_clients.proofs.clients.end_slot.Goals as goal
 
 pub returns-in_ok-admission-in-Admits-clause-came : goal.returns-in_ok-admission-in-Admits-clause-came
@@ -104,3 +105,21 @@ returns-in_ok-admission-in-Admits-clause-behind g c = ap (λ v. v.items) c.hold.
 
 pub returns-in_ok-end-in-Plays-clause-behind : goal.returns-in_ok-end-in-Plays-clause-behind
 returns-in_ok-end-in-Plays-clause-behind g c = ap (λ v. v.items) c.hold-in-Plays.ensures.numbers
+
+pub returns-in_ok-admission-in-Admits-clause-rest : goal.returns-in_ok-admission-in-Admits-clause-rest
+returns-in_ok-admission-in-Admits-clause-rest g c = c.hold.ensures.rest
+
+pub returns-in_ok-end-in-Plays-clause-rest : goal.returns-in_ok-end-in-Plays-clause-rest
+returns-in_ok-end-in-Plays-clause-rest g c = c.hold-in-Plays.ensures.rest
+
+pub returns-in-Leaves-clause-rest : goal.returns-in-Leaves-clause-rest
+returns-in-Leaves-clause-rest g c = rest_same c.args.at c.args.inside.now.all.places
+
+pub returns-in_ok-admission-in-Admits-clause-tells : goal.returns-in_ok-admission-in-Admits-clause-tells
+returns-in_ok-admission-in-Admits-clause-tells g c = λ on. refl
+
+pub returns-in_ok-end-in-Plays-clause-tells : goal.returns-in_ok-end-in-Plays-clause-tells
+returns-in_ok-end-in-Plays-clause-tells g c = λ on. refl
+
+pub returns-in-Leaves-clause-tells : goal.returns-in-Leaves-clause-tells
+returns-in-Leaves-clause-tells g c = λ on. on (subst (λ t. IsLeaver t) (sym c.in-Leaves.is) tt)

@@ -10,6 +10,7 @@ use Rattle.ws_clients.proofs.ClientLemmas.{emptied_at, ends_place, keeps_same, k
 use Rattle.ws_clients.proofs.ClientLemmas.{no_stream, none_waits, sound_empty, sound_kept_anew, stay_same}
 use Rattle.ws_clients.proofs.KindLemmas.{but_moved, none_waits_there, numbers_but, numbers_lost, numbers_put, of_place}
 use Rattle.ws_clients.proofs.KindLemmas.{only_set, only_then, played_only, stands_again}
+use Rattle.ws_clients.proofs.ServedLemmas.{rest_set, rest_then, tells_at}
 use Rattle.ws_clients.proofs.clients.ended_at.Goals as goal
 
 pub take-requires : goal.take-requires
@@ -171,3 +172,39 @@ returns-in-Empty-clause-counted g c = numbers_put c.args.at c.args.inside.now.al
 
 pub returns-in_ok-came-in-Open-clause-behind : goal.returns-in_ok-came-in-Open-clause-behind
 returns-in_ok-came-in-Open-clause-behind g c = c.in_ok-came-in-Open.ensures.behind
+
+pub returns-in_ok-came-in-Open-clause-rest : goal.returns-in_ok-came-in-Open-clause-rest
+returns-in_ok-came-in-Open-clause-rest g c = rest_then c.args.at c.args.inside.now.all.places c.take.new.self.places
+    c.end_slot.new.inside.all.places
+    (rest_set c.args.inside.now.all.places c.take.new.self.places c.args.at Empty c.in-Open.ensures.empty)
+    c.in_ok-came-in-Open.ensures.rest
+
+pub returns-in_ok-came-in-Open-clause-tells : goal.returns-in_ok-came-in-Open-clause-tells
+returns-in_ok-came-in-Open-clause-tells g c = tells_at c.args.at c.args.inside.now.all.places (Open c.in-Open.slot)
+    c.in_ok-came-in-Open.came c.in-Open.ensures.taken (λ on. c.in_ok-came-in-Open.ensures.tells on)
+
+pub returns-in-Pending-clause-rest : goal.returns-in-Pending-clause-rest
+returns-in-Pending-clause-rest g c = rest_then c.args.at c.args.inside.now.all.places c.take.new.self.places
+    c.watch.new.self.places
+    (rest_set c.args.inside.now.all.places c.take.new.self.places c.args.at Empty c.in-Pending.ensures.empty)
+    (rest_set c.take.new.self.places c.watch.new.self.places c.args.at _ c.watch.ensures.watched)
+
+pub returns-in-Pending-clause-tells : goal.returns-in-Pending-clause-tells
+returns-in-Pending-clause-tells g c = tells_at c.args.at c.args.inside.now.all.places (Pending c.in-Pending.field-0) _
+    c.in-Pending.ensures.taken (λ on. absurd on)
+
+pub returns-in-Broken-clause-rest : goal.returns-in-Broken-clause-rest
+returns-in-Broken-clause-rest g c = rest_set c.args.inside.now.all.places c.take.new.self.places c.args.at Empty
+    c.in-Broken.ensures.empty
+
+pub returns-in-Broken-clause-tells : goal.returns-in-Broken-clause-tells
+returns-in-Broken-clause-tells g c = tells_at c.args.at c.args.inside.now.all.places Broken _ c.in-Broken.ensures.taken
+    (λ on. refl)
+
+pub returns-in-Empty-clause-rest : goal.returns-in-Empty-clause-rest
+returns-in-Empty-clause-rest g c = rest_set c.args.inside.now.all.places c.take.new.self.places c.args.at Empty
+    c.in-Empty.ensures.empty
+
+pub returns-in-Empty-clause-tells : goal.returns-in-Empty-clause-tells
+returns-in-Empty-clause-tells g c = tells_at c.args.at c.args.inside.now.all.places Empty _ c.in-Empty.ensures.taken
+    (λ on. absurd on)

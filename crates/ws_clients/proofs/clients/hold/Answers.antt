@@ -4,6 +4,7 @@ use Rattle.std.proofs.lemmas.Option.{slice_get_within}
 use Rattle.ws_loops.specs.declared.places.Place.TheVariants.{Empty}
 use Rattle.ws_clients.proofs.ClientLemmas.{awaits_at, holds_set, keeps_set, none_waits, sound_hold, stay_set}
 use Rattle.ws_clients.proofs.KindLemmas.{numbers_put, only_set}
+use Rattle.ws_clients.proofs.ServedLemmas.{rest_set}
 use Rattle.ws_clients.proofs.clients.hold.Goals as goal
 
 pub returns-clause-awaits : goal.returns-clause-awaits
@@ -38,3 +39,7 @@ pub returns-clause-counted : goal.returns-clause-counted
 returns-clause-counted g c = numbers_put c.args.at c.args.inside.now.all.places c.watch.new.self.places _
     c.args.inside.now.taken c.args.inside.now.numbers.items c.args.inside.now.is_broken c.watch.ensures.watched
     (λ runs. c.requires.number) c.requires.counted
+
+pub returns-clause-rest : goal.returns-clause-rest
+returns-clause-rest g c = rest_set c.args.inside.now.all.places c.watch.new.self.places c.args.at _
+    c.watch.ensures.watched

@@ -8,6 +8,7 @@ use Rattle.ws_clients.specs.declared.talking.Talk.TheVariants.{Leaves}
 use Rattle.ws_clients.proofs.ClientLemmas.{held_same, keeps_set, leaver_goes_on, left_now, no_stream, slot_now}
 use Rattle.ws_clients.proofs.ClientLemmas.{sound_begin, streams_none, streams_taken, talk_begins}
 use Rattle.ws_clients.proofs.KindLemmas.{left_held, left_none, numbers_but, numbers_lost, only_same, only_set}
+use Rattle.ws_clients.proofs.ServedLemmas.{rest_same, rest_set}
 use Rattle.ws_clients.proofs.clients.leave_inside.Goals as goal
 
 pub open-requires-clause-able : goal.open-requires-clause-able
@@ -91,3 +92,9 @@ returns-clause-counted g c =
     c.number_taken.ensures.numbers refl
     (numbers_but c.args.at c.args.inside.now.all.places c.args.inside.now.taken c.args.inside.now.numbers.items
     c.args.inside.now.is_broken c.requires.counted)
+
+pub returns-clause-rest : goal.returns-clause-rest
+returns-clause-rest g c = rest_set c.args.inside.now.all.places c.open.new.self.places c.args.at _ c.open.ensures.put
+
+pub returns-in_default-clause-rest : goal.returns-in_default-clause-rest
+returns-in_default-clause-rest g c = rest_same c.args.at c.args.inside.now.all.places

@@ -1,11 +1,12 @@
 -- All that is played goes on until something has happened.
 use Rattle.std.proofs.Common.{◌∙◌, Some, refl, rules, subst}
-use Rattle.ws_clients.specs.Clients.{PlayedOnly, PlaysOn, held_streams}
+use Rattle.ws_clients.specs.Clients.{PlayedOnly, PlaysOn, ServesOn, held_streams}
 use Rattle.ws_clients.specs.Numbers.{TakesClients}
 use Rattle.ws_clients.proofs.ClientLemmas.{goes_none, goes_on, goes_still, goes_then, newly_told, stay_same}
 use Rattle.ws_clients.proofs.ClientLemmas.{stay_then}
 use Rattle.ws_clients.proofs.KindLemmas.{only_none, only_same, only_so, only_then}
 use Rattle.ws_clients.proofs.NumberLemmas.{taken_none, taken_nothing, taken_then, takes_then}
+use Rattle.ws_clients.proofs.ServedLemmas.{served_none, served_still, served_then}
 use Rattle.ws_clients.proofs.clients.next_inside.Goals as goal
 
 pub loop-left-init : goal.loop-left-init
@@ -17,6 +18,8 @@ loop-left-init g c = record {
   limits = refl;
   plays = goes_still g.M.Machine.agrees g.L.Client.NonBlocking.did g.K.LineSink.heard c.args.inside.now.all.places
       c.args.sink.now;
+  goes_on = served_still g.M.Machine.agrees g.M.Machine.wants g.L.Client.NonBlocking.did
+      (g.P.Poller.time c.args.poller.now) c.args.inside.now.all.places;
   only = only_same c.args.inside.now.all.places c.args.inside.now.all.places refl;
   takes = taken_nothing g.L.Listener.did c.args.listener.now c.args.inside.now.taken c.args.inside.now.numbers.items;
   counted = c.requires.counted;
@@ -36,6 +39,14 @@ loop-left-preserved g c = record {
       (goes_none g.M.Machine.agrees g.L.Client.NonBlocking.did g.K.LineSink.heard g.M.Machine.gives
       c.loop-left.inside.all.places c.wait_inside.new.inside.all.places c.loop-left.sink c.wait_inside.new.sink
       c.in_ok-came.came c.in_default.is c.in_ok-came.ensures.plays);
+  goes_on = served_none g.M.Machine.agrees g.M.Machine.wants g.L.Client.NonBlocking.did
+      (g.P.Poller.time c.args.poller.now) (g.P.Poller.time c.wait_inside.new.poller) c.args.inside.now.all.places
+      c.wait_inside.new.inside.all.places c.in_ok-came.came c.in_default.is
+      (served_then g.M.Machine.agrees g.M.Machine.wants g.L.Client.NonBlocking.did
+      (g.P.Poller.time c.args.poller.now) (g.P.Poller.time c.loop-left.poller)
+      (g.P.Poller.time c.wait_inside.new.poller) c.args.inside.now.all.places c.loop-left.inside.all.places
+      c.wait_inside.new.inside.all.places c.in_ok-came.came c.in_ok-came.ensures.later c.loop-left.invariant.goes_on
+      c.in_ok-came.ensures.goes_on);
   only = only_then c.args.inside.now.all.places c.loop-left.inside.all.places c.wait_inside.new.inside.all.places
       c.loop-left.invariant.only
       (only_none c.loop-left.inside.all.places c.wait_inside.new.inside.all.places c.in_ok-came.came c.in_default.is
@@ -82,3 +93,13 @@ returns-in-Some-clause-takes g c = takes_then g.L.Listener.did c.args.listener.n
     (subst (λ e. TakesClients g.L.Listener.did c.loop-left.listener c.wait_inside.new.listener
     c.loop-left.inside.taken c.loop-left.inside.numbers.items c.wait_inside.new.inside.taken
     c.wait_inside.new.inside.numbers.items e) c.in-Some.is c.in_ok-came.ensures.takes)
+
+pub returns-in-Some-clause-goes_on : goal.returns-in-Some-clause-goes_on
+returns-in-Some-clause-goes_on g c = served_then g.M.Machine.agrees g.M.Machine.wants g.L.Client.NonBlocking.did
+    (g.P.Poller.time c.args.poller.now) (g.P.Poller.time c.loop-left.poller)
+    (g.P.Poller.time c.wait_inside.new.poller) c.args.inside.now.all.places c.loop-left.inside.all.places
+    c.wait_inside.new.inside.all.places (Some c.in-Some.event) c.in_ok-came.ensures.later
+    c.loop-left.invariant.goes_on
+    (subst (λ e. ServesOn g.M.Machine.agrees g.M.Machine.wants g.L.Client.NonBlocking.did
+    (g.P.Poller.time c.loop-left.poller) (g.P.Poller.time c.wait_inside.new.poller) c.loop-left.inside.all.places
+    c.wait_inside.new.inside.all.places e) c.in-Some.is c.in_ok-came.ensures.goes_on)

@@ -3,6 +3,7 @@ use Rattle.std.proofs.Common.{◌≡◌, ◌<◌, Bor, List, length, map, ℕ}
 use Rattle.ws_clients.specs.Clients.{AreClientsSound, HasGoneOnTo, PlayNoMore, StayHeld, held_streams}
 use Rattle.ws_clients.specs.Numbers.{AreNumbersSound}
 use Rattle.ws_clients.proofs.NumberLemmas.{HasTakenSo}
+use Rattle.ws_clients.proofs.ServedLemmas.{StillServed}
 use Rattle.ws_clients.proofs.clients.next_inside.Given as goal
 
 abbrev pub invariant-loop-left : goal.invariant-loop-left
@@ -16,6 +17,8 @@ invariant-loop-left g l = record {
   limits : l.inside.limits ≡ l.fn.inside.limits;
   plays : HasGoneOnTo g.K.LineSink.heard g.M.Machine.agrees g.L.Client.NonBlocking.did l.fn.inside.all.places
       l.inside.all.places l.fn.sink l.sink;
+  goes_on : StillServed g.M.Machine.agrees g.M.Machine.wants g.L.Client.NonBlocking.did
+      (g.P.Poller.time l.fn.poller) (g.P.Poller.time l.poller) l.fn.inside.all.places l.inside.all.places;
   only : PlayNoMore l.fn.inside.all.places l.inside.all.places;
   takes : HasTakenSo g.L.Listener.did l.fn.listener l.listener l.fn.inside.taken l.fn.inside.numbers.items
       l.inside.taken l.inside.numbers.items;

@@ -5,6 +5,7 @@ use Rattle.ws_loops.specs.declared.places.Place.TheVariants.{Empty}
 use Rattle.ws_clients.specs.declared.talking.Talk.TheVariants.{Admits}
 use Rattle.ws_clients.proofs.ClientLemmas.{keeps_same, keeps_set, none_waits, sound_open, talk_begins}
 use Rattle.ws_clients.proofs.KindLemmas.{none_waits_there, numbers_came, only_same, only_set}
+use Rattle.ws_clients.proofs.ServedLemmas.{rest_same, rest_set}
 use Rattle.ws_clients.proofs.clients.receive.Goals as goal
 
 pub put-requires-clause-able : goal.put-requires-clause-able
@@ -47,3 +48,9 @@ returns-in_default-clause-others g c = keeps_same g.M.Machine.agrees g.S.NonBloc
 
 pub returns-in_default-clause-only : goal.returns-in_default-clause-only
 returns-in_default-clause-only g c = only_same c.args.inside.now.all.places c.args.inside.now.all.places refl
+
+pub returns-clause-rest : goal.returns-clause-rest
+returns-clause-rest g c = rest_set c.args.inside.now.all.places c.put.new.self.places c.args.at _ c.put.ensures.put
+
+pub returns-in_default-clause-rest : goal.returns-in_default-clause-rest
+returns-in_default-clause-rest g c = rest_same c.args.at c.args.inside.now.all.places

@@ -4,6 +4,7 @@ use Rattle.ws_clients.specs.Numbers.{AreNumbersSound}
 use Rattle.ws_clients.specs.Talks.{wants_talk}
 use Rattle.ws_clients.proofs.ClientLemmas.{come_so, goes_run, sound_run, sound_stopped}
 use Rattle.ws_clients.proofs.KindLemmas.{numbers_run, numbers_stopped, runs_only}
+use Rattle.ws_clients.proofs.ServedLemmas.{all_run}
 use Rattle.ws_clients.proofs.clients.run_all.Goals as goal
 
 pub returns-in-Ok-clause-arrived : goal.returns-in-Ok-clause-arrived
@@ -49,3 +50,9 @@ pub returns-in-Err-clause-counted : goal.returns-in-Err-clause-counted
 returns-in-Err-clause-counted g c = numbers_stopped c.args.inside.now.all.places c.run_listening.new.self.places
     c.args.inside.now.taken c.args.inside.now.numbers.items c.args.inside.now.is_broken c.in-Err.ensures.kinds
     c.requires.counted
+
+pub returns-in-Ok-clause-goes_on : goal.returns-in-Ok-clause-goes_on
+returns-in-Ok-clause-goes_on g c = all_run g.M.Machine.agrees g.M.Machine.wants g.L.Client.NonBlocking.did
+    g.K.LineSink.heard (g.P.Poller.time c.args.poller.now) (g.P.Poller.time c.run_listening.new.poller)
+    c.args.inside.now.all.places c.run_listening.new.self.places c.args.sink.now c.run_listening.new.sink
+    c.in-Ok.ensures.run

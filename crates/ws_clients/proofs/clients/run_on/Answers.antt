@@ -2,13 +2,15 @@
 use Rattle.std.proofs.Common.{subst, sym}
 use Rattle.ws_clients.specs.Numbers.{AreNumbersSound}
 use Rattle.ws_clients.specs.Talks.{wants_talk}
-use Rattle.ws_clients.proofs.ClientLemmas.{over_as, sound_run, sound_stopped}
+use Rattle.ws_clients.proofs.ClientLemmas.{sound_run, sound_stopped}
 use Rattle.ws_clients.proofs.KindLemmas.{numbers_run, numbers_stopped}
+use Rattle.ws_clients.proofs.ServedLemmas.{all_run, over_as}
 use Rattle.ws_clients.proofs.clients.run_on.Goals as goal
 
 pub returns-in-Ok-clause-over : goal.returns-in-Ok-clause-over
-returns-in-Ok-clause-over g c = over_as (wants_talk g.M.Machine.wants) c.args.until (g.P.Poller.time c.run.new.poller)
-    c.run.new.self c.in-Ok.ending c.in-Ok.ensures.ending
+returns-in-Ok-clause-over g c = over_as g.M.Machine.agrees g.M.Machine.wants g.S.NonBlocking.did c.args.until
+    (g.P.Poller.time c.run.new.poller) c.run.new.self c.args.inside.now.all.tickets c.in-Ok.ending
+    c.in-Ok.ensures.ending c.in-Ok.ensures.served
 
 pub returns-in-Ok-clause-whole : goal.returns-in-Ok-clause-whole
 returns-in-Ok-clause-whole g c = sound_run g.M.Machine.agrees g.S.NonBlocking.did (wants_talk g.M.Machine.wants)
@@ -35,3 +37,8 @@ pub returns-in-Err-clause-counted : goal.returns-in-Err-clause-counted
 returns-in-Err-clause-counted g c = numbers_stopped c.args.inside.now.all.places c.run.new.self.places
     c.args.inside.now.taken c.args.inside.now.numbers.items c.args.inside.now.is_broken c.in-Err.ensures.kinds
     c.requires.counted
+
+pub returns-in-Ok-clause-goes_on : goal.returns-in-Ok-clause-goes_on
+returns-in-Ok-clause-goes_on g c = all_run g.M.Machine.agrees g.M.Machine.wants g.S.NonBlocking.did
+    g.K.LineSink.heard (g.P.Poller.time c.args.poller.now) (g.P.Poller.time c.run.new.poller)
+    c.args.inside.now.all.places c.run.new.self.places c.args.sink.now c.run.new.sink c.in-Ok.ensures.run

@@ -1,5 +1,5 @@
 -- All that is played goes on until something arrives, and what has come of that is told.
-use Rattle.std.proofs.Common.{◌∙◌, ap, map, refl, subst, None, Some}
+use Rattle.std.proofs.Common.{◌∙◌, ap, arith, map, refl, subst, None, Some}
 use Rattle.ws_clients.specs.Numbers.{IsNoMore}
 use Rattle.ws_clients.specs.Clients.{clients_value, held_streams}
 use Rattle.ws_clients.specs.Talks.{wants_talk}
@@ -9,6 +9,7 @@ use Rattle.ws_clients.proofs.KindLemmas.{none_waits_there, only_so, only_then}
 use Rattle.ws_clients.proofs.NumberLemmas.{no_reason, takes_client, takes_deaf, takes_ended, takes_late, takes_lost}
 use Rattle.ws_clients.proofs.ClientLemmas.{no_more_only, no_more_played, no_more_stands, ended_later, ends_on, goes_then, holds_so, keeps_on, keeps_same}
 use Rattle.ws_clients.proofs.ClientLemmas.{late_came, newly_so, over_came, same_known, stay_kept, stay_then}
+use Rattle.ws_clients.proofs.ServedLemmas.{serves_now, settles_ended, settles_filled, settles_still}
 use Rattle.ws_clients.proofs.clients.wait_inside.Goals as goal
 
 pub ended_at-requires-clause-over : goal.ended_at-requires-clause-over
@@ -224,3 +225,57 @@ returns-in_ok-receive-in-Client-clause-takes g c = takes_client g.L.Listener.did
     c.run_all.new.inside.all c.in_ok-arrival.arrival c.in-Client.at c.in-Client.stream c.in-Client.is
     c.in_ok-arrival.ensures.arrived).0 c.run_all.ensures.counted)
     c.in_ok-receive-in-Client.ensures.taken c.in_ok-receive-in-Client.ensures.numbers
+
+pub returns-in_ok-came-in-Ended-clause-goes_on : goal.returns-in_ok-came-in-Ended-clause-goes_on
+returns-in_ok-came-in-Ended-clause-goes_on g c = serves_now g.M.Machine.agrees g.M.Machine.wants g.L.Client.NonBlocking.did
+    (g.P.Poller.time c.args.poller.now) (g.P.Poller.time c.run_all.new.poller) (g.P.Poller.time c.now-now.new.self) _
+    c.args.inside.now.all.places c.run_all.new.inside.all.places c.ended_at.new.inside.all.places c.in_ok-came-in-Ended.came
+    c.now-now.ensures.later c.in_ok-arrival.ensures.goes_on (c.requires.whole.talks c.requires.runs)
+    (settles_ended c.run_all.new.inside.all.places c.ended_at.new.inside.all.places c.in_ok-came-in-Ended.came c.in-Ended.at
+    c.in_ok-came-in-Ended.ensures.rest (λ was is on. c.in_ok-came-in-Ended.ensures.tells was is on))
+
+pub returns-in_ok-came-in-Ended-clause-later : goal.returns-in_ok-came-in-Ended-clause-later
+returns-in_ok-came-in-Ended-clause-later g c = omega (arith, c.in_ok-arrival.ensures.later, c.now-now.ensures.later)
+
+pub returns-in_ok-receive-in-Client-clause-goes_on : goal.returns-in_ok-receive-in-Client-clause-goes_on
+returns-in_ok-receive-in-Client-clause-goes_on g c = serves_now g.M.Machine.agrees g.M.Machine.wants g.L.Client.NonBlocking.did
+    (g.P.Poller.time c.args.poller.now) (g.P.Poller.time c.run_all.new.poller) (g.P.Poller.time c.now-now.new.self) _
+    c.args.inside.now.all.places c.run_all.new.inside.all.places c.receive.new.inside.all.places None
+    c.now-now.ensures.later c.in_ok-arrival.ensures.goes_on (c.requires.whole.talks c.requires.runs)
+    (settles_filled c.run_all.new.inside.all.places c.receive.new.inside.all.places None c.in-Client.at (client_came (wants_talk g.M.Machine.wants)
+    g.L.Client.NonBlocking.did g.L.Listener.did c.args.until (g.P.Poller.time c.run_all.new.poller)
+    c.run_all.new.listener c.run_all.new.inside.all c.in_ok-arrival.arrival c.in-Client.at c.in-Client.stream
+    c.in-Client.is c.in_ok-arrival.ensures.arrived).0 c.receive.ensures.rest)
+
+pub returns-in_ok-receive-in-Client-clause-later : goal.returns-in_ok-receive-in-Client-clause-later
+returns-in_ok-receive-in-Client-clause-later g c = omega (arith, c.in_ok-arrival.ensures.later, c.now-now.ensures.later)
+
+pub returns-in-Lost-clause-goes_on : goal.returns-in-Lost-clause-goes_on
+returns-in-Lost-clause-goes_on g c = serves_now g.M.Machine.agrees g.M.Machine.wants g.L.Client.NonBlocking.did
+    (g.P.Poller.time c.args.poller.now) (g.P.Poller.time c.run_all.new.poller) (g.P.Poller.time c.now-now.new.self) _
+    c.args.inside.now.all.places c.run_all.new.inside.all.places c.run_all.new.inside.all.places None
+    c.now-now.ensures.later c.in_ok-arrival.ensures.goes_on (c.requires.whole.talks c.requires.runs)
+    (settles_still c.run_all.new.inside.all.places c.run_all.new.inside.all.places None refl)
+
+pub returns-in-Lost-clause-later : goal.returns-in-Lost-clause-later
+returns-in-Lost-clause-later g c = omega (arith, c.in_ok-arrival.ensures.later, c.now-now.ensures.later)
+
+pub returns-in-NotAccepted-clause-goes_on : goal.returns-in-NotAccepted-clause-goes_on
+returns-in-NotAccepted-clause-goes_on g c = serves_now g.M.Machine.agrees g.M.Machine.wants g.L.Client.NonBlocking.did
+    (g.P.Poller.time c.args.poller.now) (g.P.Poller.time c.run_all.new.poller) (g.P.Poller.time c.now-now.new.self) _
+    c.args.inside.now.all.places c.run_all.new.inside.all.places c.run_all.new.inside.all.places (Some c.deaf_by.result)
+    c.now-now.ensures.later c.in_ok-arrival.ensures.goes_on (c.requires.whole.talks c.requires.runs)
+    (settles_still c.run_all.new.inside.all.places c.run_all.new.inside.all.places (Some c.deaf_by.result) refl)
+
+pub returns-in-NotAccepted-clause-later : goal.returns-in-NotAccepted-clause-later
+returns-in-NotAccepted-clause-later g c = omega (arith, c.in_ok-arrival.ensures.later, c.now-now.ensures.later)
+
+pub returns-in-TooLate-clause-goes_on : goal.returns-in-TooLate-clause-goes_on
+returns-in-TooLate-clause-goes_on g c = serves_now g.M.Machine.agrees g.M.Machine.wants g.L.Client.NonBlocking.did
+    (g.P.Poller.time c.args.poller.now) (g.P.Poller.time c.run_all.new.poller) (g.P.Poller.time c.now-now.new.self) _
+    c.args.inside.now.all.places c.run_all.new.inside.all.places c.run_all.new.inside.all.places (Some TooLate)
+    c.now-now.ensures.later c.in_ok-arrival.ensures.goes_on (c.requires.whole.talks c.requires.runs)
+    (settles_still c.run_all.new.inside.all.places c.run_all.new.inside.all.places (Some TooLate) refl)
+
+pub returns-in-TooLate-clause-later : goal.returns-in-TooLate-clause-later
+returns-in-TooLate-clause-later g c = omega (arith, c.in_ok-arrival.ensures.later, c.now-now.ensures.later)

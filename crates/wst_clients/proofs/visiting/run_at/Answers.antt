@@ -9,6 +9,7 @@ use Rattle.wst_clients.specs.Turns.{RunsOn, met_clients}
 use Rattle.wst_clients.specs.Visits.{known_by}
 use Rattle.wst_clients.proofs.TurnLemmas.{passed_none, passed_then}
 use Rattle.wst_clients.proofs.VisitingLemmas.{runs_begun, runs_ended, runs_further}
+use Rattle.wst_clients.proofs.VisitorLemmas.{waits_same, waits_then}
 use Rattle.wst_clients.proofs.visiting.run_at.Goals as goal
 
 pub loop-left-init : goal.loop-left-init
@@ -21,6 +22,7 @@ loop-left-init g c = record {
   are = c.play.ensures.stay.stay (known_by c.args.round.rules.now) (milliseconds_of c.args.round.rules.now.wait)
       c.requires.are;
   held = c.play.ensures.held c.requires.nobody c.requires.held;
+  queue = waits_same c.args.visitors.now.waiting c.play.new.self.waiting c.play.ensures.queue.0;
   still = λ failed. failed;
 }
 
@@ -64,5 +66,11 @@ loop-left-preserved g c =
           at.invariant.passed c.in_ok-transcript.ensures.still c.in_ok-transcript.ensures.passed;
       are = c.in_ok-transcript.ensures.are;
       held = c.in_ok-transcript.ensures.held;
+      queue = waits_then c.args.visitors.now.waiting.items at.visitors.waiting.items
+          c.run_on.new.visitors.waiting.items at.invariant.queue c.in_ok-transcript.ensures.queue;
       still = λ failed. c.in_ok-transcript.ensures.still (at.invariant.still failed);
     }
+
+pub returns-in-Some-clause-queue : goal.returns-in-Some-clause-queue
+returns-in-Some-clause-queue g c = waits_then c.args.visitors.now.waiting.items c.loop-left.visitors.waiting.items
+    c.run_on.new.visitors.waiting.items c.loop-left.invariant.queue c.in_ok-transcript.ensures.queue

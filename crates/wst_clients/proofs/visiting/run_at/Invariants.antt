@@ -2,7 +2,7 @@
 use Rattle.ws_frame.specs.Devices.{watched}
 use Rattle.wst_commands.specs.Devices.{StaysFailed}
 use Rattle.wst_clients.specs.Turns.{RunsHeld, met_clients}
-use Rattle.wst_clients.specs.Visitors.{AreHeld, AreTestedBy}
+use Rattle.wst_clients.specs.Visitors.{AreHeld, AreTestedBy, WaitOn}
 use Rattle.wst_clients.specs.Visits.{HavePassed}
 use Rattle.wst_clients.proofs.visiting.run_at.Given as goal
 
@@ -14,6 +14,7 @@ invariant-loop-left g l = record {
       (watched g.F.Write.contents l.initial.faults l.faults);
   are : AreTestedBy l.round.rules.now l.visitors;
   held : AreHeld g.L.Client.NonBlocking.did l.visitors;
+  queue : WaitOn l.fn.visitors.waiting.items l.visitors.waiting.items;
   still : StaysFailed l.initial.faults l.faults;
 }
 

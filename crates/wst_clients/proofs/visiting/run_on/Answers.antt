@@ -1,8 +1,8 @@
 -- The case has ended, or it plays on where something else has happened.
-use Rattle.std.proofs.Common.{None}
+use Rattle.std.proofs.Common.{◌∙◌, None}
 use Rattle.wst_clients.proofs.HeldLemmas.{held_decided, held_gone, held_next, held_played, held_same}
 use Rattle.wst_clients.proofs.VisitingLemmas.{on_deaf, on_decided, on_end, on_full, on_gone, on_late, on_played}
-use Rattle.wst_clients.proofs.VisitorLemmas.{decided_now}
+use Rattle.wst_clients.proofs.VisitorLemmas.{decided_now, waits_admitted, waits_same, waits_then}
 use Rattle.wst_clients.proofs.visiting.run_on.Goals as goal
 
 pub returns-then-place-at-clause-runs : goal.returns-then-place-at-clause-runs
@@ -85,3 +85,34 @@ returns-in-Full-clause-held g c = held_next g.L.Client.NonBlocking.did c.args.vi
 pub returns-in-Deaf-clause-held : goal.returns-in-Deaf-clause-held
 returns-in-Deaf-clause-held g c = held_next g.L.Client.NonBlocking.did c.args.visitors.now c.next.new.self
     c.in_ok-event.ensures.stay c.in_ok-event.ensures.held c.requires.held
+
+pub returns-then-place-at-clause-queue : goal.returns-then-place-at-clause-queue
+returns-then-place-at-clause-queue g c = waits_same c.args.visitors.now.waiting c.wait_anew.new.self.waiting
+    (c.wait_anew.ensures.queue.0 ∙ (c.leave.ensures.waiting ∙ c.in_ok-event.ensures.stay.waiting))
+
+pub returns-else-place-at-clause-queue : goal.returns-else-place-at-clause-queue
+returns-else-place-at-clause-queue g c = waits_same c.args.visitors.now.waiting c.leave.new.self.waiting
+    (c.leave.ensures.waiting ∙ c.in_ok-event.ensures.stay.waiting)
+
+pub returns-else-place-at-2-clause-queue : goal.returns-else-place-at-2-clause-queue
+returns-else-place-at-2-clause-queue g c = waits_same c.args.visitors.now.waiting c.leave-in-Gone.new.self.waiting
+    (c.leave-in-Gone.ensures.waiting ∙ c.in_ok-event.ensures.stay.waiting)
+
+pub returns-in-TooLate-clause-queue : goal.returns-in-TooLate-clause-queue
+returns-in-TooLate-clause-queue g c = waits_same c.args.visitors.now.waiting c.next.new.self.waiting
+    c.in_ok-event.ensures.stay.waiting
+
+pub returns-in-Full-clause-queue : goal.returns-in-Full-clause-queue
+returns-in-Full-clause-queue g c = waits_same c.args.visitors.now.waiting c.next.new.self.waiting
+    c.in_ok-event.ensures.stay.waiting
+
+pub returns-in-Deaf-clause-queue : goal.returns-in-Deaf-clause-queue
+returns-in-Deaf-clause-queue g c = waits_same c.args.visitors.now.waiting c.next.new.self.waiting
+    c.in_ok-event.ensures.stay.waiting
+
+pub returns-in_ok-admit-in-Decided-clause-queue : goal.returns-in_ok-admit-in-Decided-clause-queue
+returns-in_ok-admit-in-Decided-clause-queue g c = waits_then c.args.visitors.now.waiting.items
+    c.next.new.self.waiting.items c.admit.new.visitors.waiting.items
+    (waits_same c.args.visitors.now.waiting c.next.new.self.waiting c.in_ok-event.ensures.stay.waiting)
+    (waits_admitted g.L.Client.NonBlocking.did c.args.round.rules.now c.args.round.standing.now c.in-Decided.place
+    c.in-Decided.admission c.next.new.self c.admit.new.visitors c.in_ok-admit-in-Decided.ensures.admitted)

@@ -60,3 +60,6 @@ returns-clause-played g c = played_to g.L.Client.NonBlocking.did c.args.round.ru
     c.args.at c.args.purpose c.args.behind.items c.args.visitors.now c.in_ok-transcript-in-Some.transcript
     c.in-Some.case.now c.in_ok-tester-in-Some.tester.run c.requires.are.is_known c.requires.turn c.in-Some.ensures.0
     c.in_ok-tester-in-Some.ensures.begins c.in_ok-transcript-in-Some.ensures.runs
+
+pub returns-clause-queue : goal.returns-clause-queue
+returns-clause-queue g c = c.in_ok-transcript-in-Some.ensures.queue

@@ -2,6 +2,7 @@
 use Rattle.std.proofs.Common.{[]}
 use Rattle.ws_clients.specs.Clients.{clients_value, held_streams}
 use Rattle.ws_clients.proofs.ClientLemmas.{always_so, fresh_seen, held_seen, only_seen, takes_seen}
+use Rattle.ws_clients.proofs.ServedLemmas.{serves_seen}
 use Rattle.ws_clients.proofs.clients.Clients.next.Goals as goal
 
 pub returns-clause-fresh : goal.returns-clause-fresh
@@ -24,3 +25,8 @@ returns-clause-takes g c = takes_seen 0 _ c.args.self.now [] c.self.view_is g.L.
 
 pub returns-clause-apart : goal.returns-clause-apart
 returns-clause-apart g c = always_so c.next_inside.result _ c.next_inside.ensures.counted.are
+
+pub returns-clause-goes_on : goal.returns-clause-goes_on
+returns-clause-goes_on g c = serves_seen g.M.Machine.agrees g.M.Machine.wants g.S.NonBlocking.did _ c.args.self.now
+    c.next_inside.new.inside.all.places (g.P.Poller.time c.args.poller.now) (g.P.Poller.time c.next_inside.new.poller)
+    c.next_inside.result c.self.view_is c.next_inside.ensures.goes_on
