@@ -14,7 +14,6 @@ pub mod ReadingLines
 pub mod FaultRules
 pub mod Explaining
 pub mod Show
-pub mod Head
 pub mod Pairs
 pub mod Session
 pub mod Judge

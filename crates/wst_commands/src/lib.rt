@@ -3,7 +3,7 @@
 //! stands here.
 //!
 //! The layer above uses a call for each command, each with one clause, what a run of that command is (`RunsShow` and
-//! its like): `run_show`, `run_moves` (of `pair`), `run_head`, `run_session`, `run_judge`, `run_convert`, `run_cases`,
+//! its like): `run_show`, `run_moves` (of `pair`), `run_session`, `run_judge`, `run_convert`, `run_cases` and
 //! `run_report`;
 //! `cases_of`, `ids_for` and `is_glob`, which say for which cases words stand; `end_run`, `tell_fault` and
 //! `tell_no_cases`, which tell a fault; `step_damage`, what is wrong with a line of a script; `code_notes`, remarks on
@@ -22,7 +22,6 @@ mod explanation_lines;
 mod fault;
 mod fault_rules;
 mod given_cases;
-mod head;
 mod judge;
 mod limits;
 mod page_texts;
@@ -51,7 +50,6 @@ pub use exit::Exit;
 pub use explaining::{Judgement, judgement_of};
 pub use fault::{Fault, ListenFault, end_run, tell_fault};
 pub use given_cases::{NoCases, cases_of, ids_for, is_glob, tell_no_cases};
-pub use head::run_head;
 pub use judge::{exit_of, run_judge};
 pub use limits::limits_given;
 pub use pair::run_moves;

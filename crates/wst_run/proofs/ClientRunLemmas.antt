@@ -1,11 +1,12 @@
 -- Runs over clients at an address: what is known of a listener may be said of the address; and scripts that were sent.
 use Rattle.std.proofs.Common.{◌≡◌, ◌∙◌, ℕ, Bool, true, false, IsErrAnd, List, [], ◌∷◌, Option, None, Some, Result, Ok}
-use Rattle.std.proofs.Common.{Err, arith, inl, inr, length, refl, subst, sym}
+use Rattle.std.proofs.Common.{Err, ap, arith, inl, inr, length, refl, subst, sym}
 use Rattle.std.proofs.lemmas.Bool.{false≢true}
 use Rattle.std.specs.Bool.{⊤}
-use Rattle.std.specs.Prelude.{IsTrue, MatchResult}
+use Rattle.std.specs.Prelude.{IsTrue, MatchResult, is_some}
 use Rattle.ws_frame.specs.Devices.{Device, IsUntouched}
 use Rattle.ws_loops.specs.Listeners.{AcceptDeed}
+use Rattle.ws_networks.specs.declared.bounds.Limits.{Limits}
 use Rattle.ws_reports.specs.Reports.{ReportValue}
 use Rattle.ws_scripts.specs.Captures2.{written_capture2}
 use Rattle.ws_scripts.specs.declared.script.Case.{Case}
@@ -17,7 +18,10 @@ use Rattle.wst_commands.specs.declared.exit.Exit.{Exit}
 use Rattle.wst_commands.specs.declared.exit.Exit.TheVariants.{Done, Failed}
 use Rattle.wst_commands.specs.declared.fault.Fault.{Fault}
 use Rattle.wst_commands.specs.declared.fault.Fault.TheVariants.{NoMemory}
+use Rattle.wst_commands.specs.declared.time_limit.TimeLimit.{TimeLimit}
+use Rattle.wst_commands.specs.declared.time_limit.TimeLimit.TheVariants.{Seconds, Unlimited}
 use Rattle.wst_sockets.specs.Listening.{CanNotListen}
+use Rattle.wst_sockets.specs.declared.waits.Waits.{Waits}
 use Rattle.wst_testing.specs.Hints.{missed_echo_notes}
 use Rattle.wst_testing.specs.Notes.{TellsEach}
 use Rattle.wst_commands.specs.TimeLimits.{milliseconds_of}
@@ -58,6 +62,17 @@ pub waits_as : {M L P E S W : Type 0} (v : Visitors M L P E S W) (names known : 
     → names ≡ known → limit ≡ wait → AreVisitors names limit v → AreVisitors known wait v
 waits_as v names known limit wait same is are = subst (λ (l : List (List ℕ)). AreVisitors l wait v) same
     (subst (λ (w : Option ℕ). AreVisitors names w v) is are)
+
+-- by these waits they have a limit where there is one
+limited_time : (limit : TimeLimit) → is_some (milliseconds_of limit) ≡ is_limited limit
+limited_time Unlimited = refl
+limited_time (Seconds seconds) = refl
+
+pub limited_so : (limits : Limits) (waits : Waits) (timeout : TimeLimit)
+    → limits ≡ record { limit = milliseconds_of waits.byte; deadline = milliseconds_of waits.deadline }
+    → waits.byte ≡ timeout → is_some limits.limit ≡ is_limited timeout
+limited_so limits waits timeout is byte = ap (λ (l : Limits). is_some l.limit) is
+    ∙ (ap (λ (limit : TimeLimit). is_some (milliseconds_of limit)) byte ∙ limited_time timeout)
 
 -- ---- tests
 

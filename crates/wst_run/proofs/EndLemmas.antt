@@ -1,5 +1,5 @@
 -- A run over the end that a plan names is one over what it tests.
-use Rattle.std.proofs.Common.{◌≡◌, List, ℕ, Bool, true, false, Result, Ok, Err, subst}
+use Rattle.std.proofs.Common.{◌≡◌, List, ℕ, Bool, true, false, Result, Ok, Err, subst, sym}
 use Rattle.std.specs.Borrow.{Bor}
 use Rattle.ws_frame.specs.Devices.{Device}
 use Rattle.ws_reports.specs.Reports.{ReportValue}
@@ -7,9 +7,10 @@ use Rattle.ws_scripts.specs.declared.script.Case.{Case}
 use Rattle.wst_commands.specs.declared.exit.Exit.{Exit}
 use Rattle.wst_commands.specs.declared.fault.Fault.{Fault}
 use Rattle.wst_testing.specs.Ends.{IsEndOfPlan, MeetsEnd, MeetsEndShown}
-use Rattle.wst_testing.specs.Servers.{MeetsInMemory}
+use Rattle.wst_testing.specs.Servers.{AddressValue, MeetsAtAddress, MeetsInMemory}
 use Rattle.wst_sockets.specs.declared.meeting.Meeting.{Meeting}
 use Rattle.wst_testing.specs.declared.runner.End.{End}
+use Rattle.wst_testing.specs.declared.runner.End.TheVariants.{Address}
 use Rattle.wst_testing.specs.declared.run_plans.TestedEnd.{TestedEnd}
 use Rattle.wst_testing.specs.declared.run_plans.TestedEnd.TheVariants.{Clients, Memory, Server}
 use Rattle.wst_run.specs.ClientRuns.{SendsAt, TestsClientsAt}
@@ -34,6 +35,15 @@ tests_end {N} {C} (Server target) plan report end exit output faults is h =
     subst (λ (e : End N C). RunsPlan (λ case meeting. MeetsEnd e plan.run.key case meeting) plan report exit output faults)
     is h
 tests_end (Clients address) plan report end exit output faults is h = absurd is
+
+-- cases that are run over a server are run over the end that it is
+pub tests_server : {N C : Type 0} (end : End N C) (server : AddressValue) (plan : TestPlan) (report : ReportValue)
+    (exit : Exit) (output faults : Device) → end ≡ Address server
+    → RunsPlan (λ case meeting. MeetsAtAddress server plan.run.key case meeting) plan report exit output faults
+    → RunsPlan (λ case meeting. MeetsEnd end plan.run.key case meeting) plan report exit output faults
+tests_server {N} {C} end server plan report exit output faults is h =
+    subst (λ (e : End N C). RunsPlan (λ case meeting. MeetsEnd e plan.run.key case meeting) plan report exit output faults)
+    (sym is) h
 
 pub tests_clients : {N C : Type 0} (tested : TestedEnd) (plan : TestPlan) (report : ReportValue)
     (named : Result (End N C) (Bor (List ℕ))) (address : Bor (List ℕ)) (exit : Exit) (output faults : Device)
@@ -60,6 +70,15 @@ sweeps_end {N} {C} (Server target) plan end exit output faults is h =
     subst (λ (e : End N C). RunsSweepPlan (λ case meeting. MeetsEnd e plan.run.key case meeting) plan exit output faults)
     is h
 sweeps_end (Clients address) plan end exit output faults is h = absurd is
+
+-- scripts that are run over a server are run over the end that it is
+pub sweeps_server : {N C : Type 0} (end : End N C) (server : AddressValue) (plan : SweepPlan) (exit : Exit)
+    (output faults : Device) → end ≡ Address server
+    → RunsSweepPlan (λ case meeting. MeetsAtAddress server plan.run.key case meeting) plan exit output faults
+    → RunsSweepPlan (λ case meeting. MeetsEnd end plan.run.key case meeting) plan exit output faults
+sweeps_server {N} {C} end server plan exit output faults is h =
+    subst (λ (e : End N C). RunsSweepPlan (λ case meeting. MeetsEnd e plan.run.key case meeting) plan exit output faults)
+    (sym is) h
 
 pub sweeps_clients : {N C : Type 0} (tested : TestedEnd) (plan : SweepPlan)
     (named : Result (End N C) (Bor (List ℕ))) (address : Bor (List ℕ)) (exit : Exit) (output faults : Device)

@@ -1,6 +1,6 @@
 -- The cases that the words of `test` stand for, and what is told while they are run.
-use Rattle.std.proofs.Common.{◌≡◌, ◌∙◌, ℕ, Bool, Option, Result, inl, inr, not, true, false, List, [], ◌∷◌, ap, arith}
-use Rattle.std.proofs.Common.{refl, sym, length, slice_index_or}
+use Rattle.std.proofs.Common.{◌≡◌, ◌∙◌, ◌<◌, ℕ, Bool, Option, Result, inl, inr, not, true, false, List, [], ◌∷◌, ap, arith}
+use Rattle.std.proofs.Common.{refl, sym, length}
 use Rattle.std.specs.Borrow.{Bor}
 use Rattle.std.specs.List.{All}
 use Rattle.ws_scripts.specs.Scripts.{CanBeRun}
@@ -16,7 +16,7 @@ use Rattle.ws_frame.specs.Devices.{Device}
 use Rattle.wst_commands.specs.declared.exit.Exit.{Exit}
 use Rattle.wst_commands.specs.declared.fault.Fault.{Fault}
 use Rattle.ws_reports.specs.Reports.{ReportValue}
-use Rattle.wst_run.specs.Test.{CarriesOut, ReportsCases}
+use Rattle.wst_run.specs.Test.{CanBeTested, CarriesOut, ReportsCases}
 use Rattle.wst_sockets.specs.declared.meeting.Meeting.{Meeting}
 use Rattle.wst_run.specs.declared.test.TestPlan.{TestPlan}
 use Rattle.wst_commands.proofs.CaseLemmas.{one_case}
@@ -40,6 +40,14 @@ cases_counted [] cases one are = absurd (cc)
 cases_counted (id ∷ []) cases one are =
     one_case id.now cases are (sym (not_not (is_glob id.now)) ∙ ap (λ (b : Bool). not b) one)
 cases_counted (id ∷ next ∷ ids) cases one are = absurd (cc)
+
+-- a capture runs alone
+pub captures_alone : (plan : TestPlan) → CanBeTested plan → 1 < plan.at_once → plan.capture ≡ false
+captures_alone plan can several = by plan.capture (λ is. omega (arith, several, can.2 is))
+  where
+    by : (b : Bool) → (b ≡ true → ⊥) → b ≡ false
+    by true not_so = absurd (not_so refl)
+    by false not_so = refl
 
 -- what was told while a plan was carried out, where the fault output may have failed since
 pub carries_on : (Meets : Case → Meeting → Type 0) (plan : TestPlan) (report : ReportValue) (ended : Result Exit Fault)
@@ -81,4 +89,6 @@ send_refused options refusal.CaptureInReport is = is
 send_refused options refusal.TimeInMemory is = absurd is
 send_refused options refusal.NotOneCase is = is
 send_refused options refusal.BadMaxFail is = is
+send_refused options refusal.AtOnceInTurn is = is
+send_refused options refusal.BadAtOnce is = is
 send_refused options (refusal.NoCases why) is = is

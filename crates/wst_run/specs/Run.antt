@@ -13,11 +13,11 @@ use Rattle.wst_words.specs.declared.words.WordsFault.TheVariants as words
 use Rattle.wst_commands.specs.Cases.{ListsCases}
 use Rattle.wst_commands.specs.Convert.{RunsConvert}
 use Rattle.wst_commands.specs.Faults.{Ends, TellsFault}
-use Rattle.wst_commands.specs.Head.{RunsHead}
 use Rattle.wst_commands.specs.Judge.{RunsJudge}
 use Rattle.wst_commands.specs.Pairs.{RunsPair}
 use Rattle.wst_commands.specs.Report.{RunsReport}
 use Rattle.wst_run.specs.SendNoted.{RunsSend}
+use Rattle.wst_services.specs.Head.{RunsHead}
 use Rattle.wst_services.specs.Serve.{RunsServe}
 use Rattle.wst_run.specs.Sweep.{RunsSweep}
 use Rattle.wst_run.specs.Tap.{RunsTap}

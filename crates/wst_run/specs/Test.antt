@@ -1,7 +1,7 @@
 -- A run of `test`: the cases that the words ask for are run over ends in memory, over the server at an address, or over
 -- clients that come to one; or it is told why nothing is run.
 use Rattle.std.specs.Prelude.{◌≡◌, ◌⊎◌, ⊤, ℕ, Bool, true, false, not, ◌||◌, ◌&&◌, if◌then◌else◌, List, [], ◌∷◌}
-use Rattle.std.specs.Prelude.{Option, Some, None, Result, length}
+use Rattle.std.specs.Prelude.{Option, Some, None, Result, is_some, length, nat_lt}
 use Rattle.std.specs.List.{All}
 use Rattle.ws_frame.specs.Devices.{Device, HasWritten, IsUntouched}
 use Rattle.ws_frame.specs.declared.source.DataStyle.{DataStyle}
@@ -17,7 +17,8 @@ use Rattle.wst_commands.specs.declared.given_cases.NoCases.TheVariants.{NoMemory
 use Rattle.wst_run.specs.ClientRuns.{TestsClientsAt}
 use Rattle.wst_testing.specs.KnownInput.{IsKnownBy, StopsKnowing, TellsKnownStop}
 use Rattle.wst_testing.specs.Reporting.{ClosesReport, StopsAtStart}
-use Rattle.wst_testing.specs.RunPlans.{CanNotRun, GivesMaxFail, HasMaxFail, IsRunPlan, TellsRefusal, tested_role}
+use Rattle.wst_testing.specs.RunPlans.{CanNotRun, GivesAtOnce, GivesMaxFail, HasTestsAtOnce, HasMaxFail, IsRunPlan}
+use Rattle.wst_testing.specs.RunPlans.{TellsRefusal, asks_in_turn, tested_role}
 use Rattle.wst_testing.specs.declared.run_plans.UsualTimes.TheVariants.{OfCases}
 use Rattle.wst_testing.specs.Servers.{MeetsAtTarget, MeetsInMemory}
 use Rattle.wst_testing.specs.Testing.{RunsCapture, RunsCases}
@@ -59,6 +60,12 @@ CanReport options = captures_in_report options ≡ false
 abbrev pub words_given : TestOptions → List (List ℕ)
 words_given options = or_all (names_of options.ids.items)
 
+-- the words say how many cases run at a time, and ask for a capture, or for an end that is tested in one after the
+-- other
+abbrev pub asks_one_by_one : TestOptions → Bool
+asks_one_by_one options = (is_some options.at_once && options.capture)
+    || asks_in_turn options.at_once options.run.role options.run.target.now
+
 -- in which style it is told why, where that is asked for: a document tells it too
 abbrev pub explained_with : TestOptions → Option DataStyle
 explained_with options = if options.explain || options.junit then Some options.style else None
@@ -66,6 +73,7 @@ explained_with options = if options.explain || options.junit then Some options.s
 -- the words ask for this
 pub record IsPlan (options : TestOptions) (plan : TestPlan) : Type 0 where
   pub can_report : CanReport options
+  pub at_a_time : asks_one_by_one options ≡ false
   pub run : IsRunPlan OfCases options.run plan.run
   pub target : plan.target.now ≡ options.run.target.now
   pub capture : plan.capture ≡ options.capture
@@ -73,32 +81,50 @@ pub record IsPlan (options : TestOptions) (plan : TestPlan) : Type 0 where
   pub progress : plan.progress ≡ options.progress
   pub can_capture : CanCapture options
   pub max_fail : GivesMaxFail options.max_fail plan.max_fail
+  pub at_once : GivesAtOnce options.at_once plan.at_once
   pub cases : AreCasesFor (words_given options) plan.cases.items
 
--- the cases can be run, and a capture is of one
+-- the cases can be run, and a capture is of one, which runs alone
 abbrev pub CanBeTested : TestPlan → Type 0
 CanBeTested plan = All CanBeRun plan.cases.items × (plan.capture ≡ true → length plan.cases.items ≡ 1)
+    × (plan.capture ≡ true → plan.at_once ≡ 1)
 
 -- ---- what they can't ask for
 
--- a report can be made where one is asked for, and nothing is wrong with the words that are shared
-abbrev pub CanRun : TestOptions → Type 0
-CanRun options = CanReport options × ((run : RunPlan) × IsRunPlan OfCases options.run run)
+-- a report can be made where one is asked for, and so many cases may run at a time
+abbrev pub CanBegin : TestOptions → Type 0
+CanBegin options = CanReport options × (asks_one_by_one options ≡ false)
 
--- The first of these that applies: a capture is asked for beside a report; the shared words can't be run; a capture is
--- not of one case; a word stands for no case; the number of failures is none. Memory may run out at any of them but the
--- first.
+-- and nothing is wrong with the words that are shared
+abbrev pub CanRun : TestOptions → Type 0
+CanRun options = CanBegin options × ((run : RunPlan) × IsRunPlan OfCases options.run run)
+
+-- what was named can be run, a capture is of one case, and each word stands for some
+abbrev pub HasCases : TestOptions → Type 0
+HasCases options = CanRun options × CanCapture options
+    × ((cases : List Case) × AreCasesFor (words_given options) cases)
+
+-- The first of these that applies: a capture is asked for beside a report; cases can run only one after the other, and
+-- it is given how many run at a time; the shared words can't be run; a capture is not of one case; a word stands for no
+-- case; the number of failures is none, or that of cases at a time. Memory may run out at any of them but the first
+-- two.
 abbrev pub RefusesTest : TestOptions → Refusal → Type 0
 RefusesTest options refusal.CaptureInReport = captures_in_report options ≡ true
 RefusesTest options refusal.NotOneCase = CanRun options × ¬ (CanCapture options)
 RefusesTest options (refusal.NoCases (NoSuchCase id)) =
     CanRun options × CanCapture options × LackCases (words_given options) (NoSuchCase id)
 RefusesTest options (refusal.NoCases NoMemory) = ⊤
-RefusesTest options refusal.BadMaxFail = CanRun options × CanCapture options
-    × ((cases : List Case) × AreCasesFor (words_given options) cases) × ¬ (HasMaxFail options.max_fail)
-RefusesTest options other = CanReport options × CanNotRun options.run other
+RefusesTest options refusal.BadMaxFail = HasCases options × ¬ (HasMaxFail options.max_fail)
+RefusesTest options refusal.BadAtOnce = HasCases options × HasMaxFail options.max_fail
+    × ¬ (HasTestsAtOnce options.at_once)
+RefusesTest options refusal.AtOnceInTurn = CanReport options × (asks_one_by_one options ≡ true)
+RefusesTest options other = CanBegin options × CanNotRun options.run other
 
 -- ---- a run
+
+-- the name of each case is told by its run: where several run at a time, it is told beside that
+abbrev pub tells_names : Bool → ℕ → Bool
+tells_names progress at_once = progress && nat_lt at_once 2
 
 -- how its cases are run
 abbrev pub rules_of : TestPlan → RunRules
@@ -107,7 +133,7 @@ rules_of plan = record {
   expected = plan.run.expected;
   key = plan.run.key;
   explains = plan.explain;
-  progress = plan.progress;
+  progress = tells_names plan.progress plan.at_once;
   is_limited = plan.run.gives_limit;
   max_fail = plan.max_fail;
 }

@@ -1,12 +1,13 @@
 //! Clients under test that come to an address of a network.
 
-ghost use Rattle.std.specs.Prelude.{◌≡◌, ⊤, MatchResult, OnErr, OnOk, [], ◌∷◌, false, true};
+ghost use Rattle.std.specs.Prelude.{◌≡◌, ⊤, MatchResult, OnErr, OnOk, [], ◌∷◌, false, is_some, true};
 ghost use Rattle.std.specs.List.{All};
 ghost use Rattle.ws_frame.specs.Devices.{watched};
 ghost use Rattle.ws_frame.specs.Watching.{has_failed};
 ghost use Rattle.ws_scripts.specs.Scripts.{CanBeRun};
 ghost use Rattle.ws_upgrade.specs.Protocols.{AreOffers};
 ghost use Rattle.wst_commands.specs.Devices.{StaysFailed};
+ghost use Rattle.wst_commands.specs.TimeLimits.{is_limited};
 ghost use Rattle.wst_commands.specs.declared.exit.Exit.TheVariants.{Failed};
 ghost use Rattle.wst_clients.specs.ClientTests.{IsVisitFault};
 ghost use Rattle.wst_run.specs.ClientRuns.{AreRulesOf, AreScriptRulesOf, IsJobFor, IsJobOf, SendsAt, SendsScript};
@@ -134,6 +135,7 @@ pub(crate) fn visit_at<N: Network, C: Connector, W: Write, F: Write>(
     requires known { AreOffers (known_by visits.rules.now) }
     requires protocols { known_by visits.rules.now ≡ run.now.protocols }
     requires wait { visits.rules.now.wait ≡ run.now.wait }
+    requires limited { visits.rules.now.has_timeouts ≡ is_limited run.now.timeout }
     ensures tests { VisitsAt address.now visits.entry.job visits.entry.rules.now result
         (watched W.contents writer.old writer.new) (watched F.contents faults.old faults.new) }
     ensures still { StaysFailed faults.old faults.new }
@@ -183,6 +185,7 @@ fn test_told<L: Listener + Drop, P: Poller + Drop, W: Write, F: Write>(
     requires one { IsJobFor visits.job visits.rules.now }
     requires known { AreOffers (known_by visits.rules.now) }
     requires are { AreTestedBy visits.rules.now visitors.old }
+    requires limited { is_some visitors.old.clients.limits.limit ≡ visits.rules.now.has_timeouts }
     requires held { AreHeld L.Client.did visitors.old }
     ensures tests { VisitsTold (unmet_as L.did P.time visitors.old) address.now visits.entry.job
         visits.entry.rules.now result (watched W.contents writer.old writer.new)

@@ -27,11 +27,11 @@ use std::io::{Read, Write};
 use ws_frame::Watched;
 use ws_reports::Report;
 use wst_commands::{
-    Exit, Fault, end_run, run_cases, run_convert, run_head, run_judge, run_moves, run_report,
-    run_session, run_show, tell_fault,
+    Exit, Fault, end_run, run_cases, run_convert, run_judge, run_moves, run_report, run_session,
+    run_show, tell_fault,
 };
 use wst_network::Connector;
-use wst_services::{plan_serve, run_serve};
+use wst_services::{plan_serve, run_head, run_serve};
 use wst_sockets::Network;
 use wst_testing::{known_given, tell_known_stop, tell_refusal};
 use wst_words::{

@@ -5,20 +5,24 @@ ghost use Rattle.ws_frame.specs.Devices.{watched};
 ghost use Rattle.ws_frame.specs.Watching.{has_failed};
 ghost use Rattle.ws_sweep.specs.Order.{max_steps};
 ghost use Rattle.wst_run.specs.Sweep.{GivesSteps, IsSweepPlan, RefusesSweep, RunsSweepPlan, TellsSweepRefusal};
+ghost use Rattle.wst_testing.specs.Ends.{MeetsEnd};
 ghost use Rattle.wst_run.specs.Sweep.{HasTooManySteps, SweepsOver, sweep_rules_of};
 
 use crate::site::Site;
 use crate::sweeping_clients::sweep_clients_at;
+use crate::test::tells_names;
 use std::alloc::Global;
 use std::io::Write;
 use ws_frame::Watched;
 use ws_sweep::MAX_STEPS;
+use wst_at_once::AtOnce;
 use wst_commands::{Exit, tell};
 use wst_network::Connector;
 use wst_sockets::Network;
 use wst_testing::{
-    CaseServer, End, Refusal, RunPlan, RunRules, SweepRules, UsualTimes, max_fail_given, plan_run,
-    sweep_scripts, tell_refusal, tell_sweep_end,
+    CaseRunner, CaseServer, End, InTurn, Refusal, RunPlan, RunRules, SweepRules, UsualTimes,
+    asks_in_turn, at_once_given, max_fail_given, plan_run, sweep_scripts, tell_refusal,
+    tell_sweep_end,
 };
 use wst_words::SweepOptions;
 
@@ -35,6 +39,8 @@ pub struct SweepPlan<'a> {
     pub progress: bool,
     /// So many failures end the run, where a number of them is given.
     pub max_fail: Option<u32>,
+    /// So many scripts run at a time.
+    pub at_once: u32,
 }
 
 /// Why no script is run: the first of these that applies.
@@ -42,8 +48,12 @@ pub struct SweepPlan<'a> {
 pub enum SweepRefusal<'a> {
     /// No script has so many steps.
     TooManySteps,
+    /// It is given how many scripts run at a time, and they can run only one after the other.
+    AtOnceInTurn,
     /// The number of failures that are to end a run is none of 1 to 1000.
     BadMaxFail,
+    /// The number of scripts that are to run at a time is none of 1 to 100.
+    BadAtOnce,
     /// What is wrong with the words that `test` has too, or memory ran out.
     Other(Refusal<'a>),
 }
@@ -69,9 +79,15 @@ pub fn plan_sweep<'a>(
     let Some(steps) = steps_given(options.steps) else {
         return Err(SweepRefusal::TooManySteps);
     };
+    if asks_in_turn(options.at_once, options.run.role, options.run.target) {
+        return Err(SweepRefusal::AtOnceInTurn);
+    }
     let run = plan_run(alloc, &options.run, UsualTimes::OfCases)?;
     let Some(max_fail) = max_fail_given(options.max_fail) else {
         return Err(SweepRefusal::BadMaxFail);
+    };
+    let Some(at_once) = at_once_given(options.at_once) else {
+        return Err(SweepRefusal::BadAtOnce);
     };
     Ok(SweepPlan {
         run,
@@ -79,6 +95,7 @@ pub fn plan_sweep<'a>(
         all: options.all,
         progress: options.progress,
         max_fail,
+        at_once,
     })
 }
 
@@ -106,8 +123,35 @@ pub(crate) fn sweep_target<N: Network, C: Connector, W: Write, F: Write>(
         (watched F.contents faults.old faults.new) }
 {
     match End::of_plan(site.net, site.connector, &plan.run) {
-        Ok(end) => sweep_over(site.alloc, &end, plan, writer, faults),
+        Ok(end) => sweep_end(site.alloc, &end, plan, writer, faults),
         Err(address) => sweep_clients_at(site, address, plan, writer, faults),
+    }
+}
+
+/// Runs the scripts of a plan over an end, several at a time where that is asked for of a server, and tells how that
+/// ended.
+fn sweep_end<N: Network, C: Connector, W: Write, F: Write>(
+    alloc: Global,
+    end: &End<'_, N, C>,
+    plan: &SweepPlan<'_>,
+    writer: &mut Watched<W>,
+    faults: &mut Watched<F>,
+) -> Exit
+    requires works { has_failed writer.old ≡ false }
+    requires steps { plan.now.steps ≤ max_steps }
+    ensures { RunsSweepPlan (MeetsEnd end.now plan.now.run.key) plan.now result
+        (watched W.contents writer.old writer.new) (watched F.contents faults.old faults.new) }
+{
+    match end {
+        End::Memory(_) => sweep_over(alloc, end, plan, writer, faults),
+        End::Address(server) => {
+            if plan.at_once > 1 {
+                let runner = AtOnce::new(server, plan.at_once as usize, plan.progress);
+                sweep_with(alloc, &runner, plan, writer, faults)
+            } else {
+                sweep_over(alloc, end, plan, writer, faults)
+            }
+        }
     }
 }
 
@@ -124,7 +168,23 @@ pub fn sweep_over<S: CaseServer, W: Write, F: Write>(
     ensures { RunsSweepPlan (S.meets server.now plan.now.run.key) plan.now result
         (watched W.contents writer.old writer.new) (watched F.contents faults.old faults.new) }
 {
-    let ended = sweep_scripts(alloc, server, rules_of(plan), writer, faults);
+    sweep_with(alloc, &InTurn(server), plan, writer, faults)
+}
+
+/// Runs the scripts of a plan, and tells how that ended.
+fn sweep_with<R: CaseRunner, W: Write, F: Write>(
+    alloc: Global,
+    runner: &R,
+    plan: &SweepPlan<'_>,
+    writer: &mut Watched<W>,
+    faults: &mut Watched<F>,
+) -> Exit
+    requires works { has_failed writer.old ≡ false }
+    requires steps { plan.now.steps ≤ max_steps }
+    ensures { RunsSweepPlan (R.meets runner.now plan.now.run.key) plan.now result
+        (watched W.contents writer.old writer.new) (watched F.contents faults.old faults.new) }
+{
+    let ended = sweep_scripts(alloc, runner, rules_of(plan), writer, faults);
     tell_sweep_end(alloc, ended, &plan.run.tested, faults)
 }
 
@@ -137,7 +197,7 @@ fn rules_of(plan: &SweepPlan<'_>) -> SweepRules
         expected: plan.run.expected,
         key: plan.run.key,
         explains: None,
-        progress: plan.progress,
+        progress: tells_names(plan.progress, plan.at_once),
         is_limited: plan.run.gives_limit,
         max_fail: plan.max_fail,
     };
@@ -145,7 +205,7 @@ fn rules_of(plan: &SweepPlan<'_>) -> SweepRules
         run,
         steps: plan.steps,
         all: plan.all,
-        names: plan.run.tells_waits(),
+        names: plan.run.tells_waits() || plan.progress && plan.at_once > 1,
     }
 }
 
@@ -162,7 +222,9 @@ pub fn tell_sweep_refusal<F: Write>(
             tell(b"--steps takes 0 to 4\n", faults);
             Exit::WrongWords
         }
+        SweepRefusal::AtOnceInTurn => tell_refusal(alloc, Refusal::AtOnceInTurn, faults),
         SweepRefusal::BadMaxFail => tell_refusal(alloc, Refusal::BadMaxFail, faults),
+        SweepRefusal::BadAtOnce => tell_refusal(alloc, Refusal::BadAtOnce, faults),
         SweepRefusal::Other(refusal) => tell_refusal(alloc, refusal, faults),
     }
 }

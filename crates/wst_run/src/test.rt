@@ -1,12 +1,14 @@
 //! The command `test`: what is to be run, and its run over ends of any kind. Its lines are told in docs/FORMATS.md.
 
-ghost use Rattle.std.specs.Prelude.{◌≡◌, IfOk, MatchResult, false};
+ghost use Rattle.std.specs.Prelude.{◌≡◌, ◌<◌, IfOk, MatchResult, false};
 ghost use Rattle.ws_frame.specs.Devices.{watched};
 ghost use Rattle.ws_frame.specs.Watching.{has_failed};
 ghost use Rattle.wst_commands.specs.Devices.{StaysFailed};
 ghost use Rattle.wst_commands.specs.GivenCases.{names_of};
+ghost use Rattle.wst_testing.specs.Ends.{MeetsEnd};
+ghost use Rattle.wst_testing.specs.Servers.{MeetsAtAddress};
 ghost use Rattle.wst_run.specs.Test.{CanBeTested, CarriesOut, IsPlan, RefusesTest, ReportsPlan, RunsPlan, RunsPlanOver};
-ghost use Rattle.wst_run.specs.Test.{explained_with, is_one_case, rules_of};
+ghost use Rattle.wst_run.specs.Test.{asks_one_by_one, explained_with, is_one_case, rules_of, tells_names};
 
 use crate::clients_at::test_clients_at;
 use crate::site::Site;
@@ -15,12 +17,14 @@ use std::io::Write;
 use ws_frame::{DataStyle, Watched};
 use ws_reports::Report;
 use ws_suite::Case;
+use wst_at_once::AtOnce;
 use wst_commands::{Exit, Fault, cases_of, deliver, end_run, is_glob};
 use wst_network::Connector;
 use wst_sockets::Network;
 use wst_testing::{
-    CaseRun, CaseServer, End, Refusal, RunPlan, RunRules, UsualTimes, capture_case, close_report,
-    max_fail_given, plan_run, test_cases,
+    AddressServer, CaseRun, CaseRunner, CaseServer, End, InTurn, Refusal, RunPlan, RunRules,
+    UsualTimes, asks_in_turn, at_once_given, capture_case, close_report, max_fail_given, plan_run,
+    test_cases,
 };
 use wst_words::TestOptions;
 
@@ -39,6 +43,8 @@ pub struct TestPlan<'a> {
     pub progress: bool,
     /// So many failures end the run, where a number of them is given.
     pub max_fail: Option<u32>,
+    /// So many cases run at a time.
+    pub at_once: u32,
     pub cases: Vec<Case>,
 }
 
@@ -56,9 +62,56 @@ pub(crate) fn run_over_target<N: Network, C: Connector, W: Write, F: Write>(
         (watched F.contents faults.old faults.new) }
 {
     match End::of_plan(site.net, site.connector, &plan.run) {
-        Ok(end) => run_plan(site.alloc, &end, plan, report, writer, faults),
+        Ok(end) => run_over_end(site.alloc, &end, plan, report, writer, faults),
         Err(address) => test_clients_at(site, address, plan, report, writer, faults),
     }
+}
+
+/// Runs the cases of a plan over an end, several at a time where that is asked for of a server, and tells how that
+/// ended.
+fn run_over_end<N: Network, C: Connector, W: Write, F: Write>(
+    alloc: Global,
+    end: &End<'_, N, C>,
+    plan: &TestPlan<'_>,
+    report: &Report,
+    writer: &mut Watched<W>,
+    faults: &mut Watched<F>,
+) -> Exit
+    requires works { has_failed writer.old ≡ false }
+    requires plan { CanBeTested plan.now }
+    ensures { RunsPlan (MeetsEnd end.now plan.now.run.key) plan.now report.now result
+        (watched W.contents writer.old writer.new) (watched F.contents faults.old faults.new) }
+{
+    match end {
+        End::Memory(_) => run_plan(alloc, end, plan, report, writer, faults),
+        End::Address(server) => {
+            if plan.at_once > 1 {
+                run_at_once(alloc, server, plan, report, writer, faults)
+            } else {
+                run_plan(alloc, end, plan, report, writer, faults)
+            }
+        }
+    }
+}
+
+/// Runs the cases of a plan over a server, several at a time, and tells how that ended.
+fn run_at_once<N: Network, C: Connector, W: Write, F: Write>(
+    alloc: Global,
+    server: &AddressServer<'_, N, C>,
+    plan: &TestPlan<'_>,
+    report: &Report,
+    writer: &mut Watched<W>,
+    faults: &mut Watched<F>,
+) -> Exit
+    requires works { has_failed writer.old ≡ false }
+    requires plan { CanBeTested plan.now }
+    requires several { 1 < plan.now.at_once }
+    ensures { RunsPlan (MeetsAtAddress server.now plan.now.run.key) plan.now report.now result
+        (watched W.contents writer.old writer.new) (watched F.contents faults.old faults.new) }
+{
+    let runner = AtOnce::new(server, plan.at_once as usize, plan.progress);
+    let ended = report_cases(alloc, &runner, plan, report, writer, faults);
+    end_run(alloc, ended, faults)
 }
 
 /// Runs the cases of a plan, each over a new end, and tells how that ended.
@@ -99,15 +152,15 @@ fn carry_out<S: CaseServer, W: Write, F: Write>(
         let cases = plan.cases.as_slice();
         capture_case(alloc, server, rules, &cases[0], writer, faults)
     } else {
-        report_cases(alloc, server, plan, report, writer, faults)
+        report_cases(alloc, &InTurn(server), plan, report, writer, faults)
     }
 }
 
 /// Runs the cases of a plan as `test_cases` does, between what the report has before and behind them. What it has
 /// behind them is written also where the run ends early, if the output works.
-fn report_cases<S: CaseServer, W: Write, F: Write>(
+fn report_cases<R: CaseRunner, W: Write, F: Write>(
     alloc: Global,
-    server: &S,
+    runner: &R,
     plan: &TestPlan<'_>,
     report: &Report,
     writer: &mut Watched<W>,
@@ -115,7 +168,7 @@ fn report_cases<S: CaseServer, W: Write, F: Write>(
 ) -> Result<Exit, Fault>
     requires works { has_failed writer.old ≡ false }
     requires plan { CanBeTested plan.now }
-    ensures runs { ReportsPlan (S.meets server.now plan.now.run.key) plan.now report.now result
+    ensures runs { ReportsPlan (R.meets runner.now plan.now.run.key) plan.now report.now result
         (watched W.contents writer.old writer.new) (watched F.contents faults.old faults.new) }
     ensures still { StaysFailed faults.old faults.new }
 {
@@ -130,7 +183,7 @@ fn report_cases<S: CaseServer, W: Write, F: Write>(
         cases: plan.cases.as_slice(),
         tested: &plan.run.tested,
     };
-    let ended = test_cases(alloc, server, run, report, writer, faults);
+    let ended = test_cases(alloc, runner, run, report, writer, faults);
     close_report(report, &ended, writer);
     ended
 }
@@ -144,10 +197,17 @@ fn rules_of(plan: &TestPlan<'_>) -> RunRules
         expected: plan.run.expected,
         key: plan.run.key,
         explains: plan.explain,
-        progress: plan.progress,
+        progress: tells_names(plan.progress, plan.at_once),
         is_limited: plan.run.gives_limit,
         max_fail: plan.max_fail,
     }
+}
+
+/// Whether the name of each case is told by its run: where several run at a time, it is told beside that.
+pub(crate) fn tells_names(progress: bool, at_once: u32) -> bool
+    ensures { result ≡ tells_names progress at_once }
+{
+    progress && at_once < 2
 }
 
 /// What the words ask for, or the first reason against it.
@@ -158,6 +218,9 @@ pub fn plan_test<'a>(alloc: Global, options: &TestOptions<'a>) -> Result<TestPla
     if options.capture && (options.known || options.junit) {
         return Err(Refusal::CaptureInReport);
     }
+    if asks_one_by_one(options) {
+        return Err(Refusal::AtOnceInTurn);
+    }
     let run = plan_run(alloc, &options.run, UsualTimes::OfCases)?;
     if options.capture && !is_one_case(options.ids.as_slice()) {
         return Err(Refusal::NotOneCase);
@@ -166,6 +229,9 @@ pub fn plan_test<'a>(alloc: Global, options: &TestOptions<'a>) -> Result<TestPla
     let Some(max_fail) = max_fail_given(options.max_fail) else {
         return Err(Refusal::BadMaxFail);
     };
+    let Some(at_once) = at_once_given(options.at_once) else {
+        return Err(Refusal::BadAtOnce);
+    };
     Ok(TestPlan {
         run,
         target: options.run.target,
@@ -173,8 +239,18 @@ pub fn plan_test<'a>(alloc: Global, options: &TestOptions<'a>) -> Result<TestPla
         explain: explained_with(options),
         progress: options.progress,
         max_fail,
+        at_once,
         cases,
     })
+}
+
+/// Whether it is given how many cases run at a time, and a capture is asked for, or the end is tested in one case after
+/// the other.
+fn asks_one_by_one(options: &TestOptions<'_>) -> bool
+    ensures { result ≡ asks_one_by_one options.now }
+{
+    (options.at_once.is_some() && options.capture)
+        || asks_in_turn(options.at_once, options.run.role, options.run.target)
 }
 
 /// In which style it is told why, where that is asked for: a document tells it too.

@@ -1,3 +1,4 @@
 pub mod ServedLines
 pub mod Serve
+pub mod Head
 pub mod Tapping

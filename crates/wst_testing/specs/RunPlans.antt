@@ -1,7 +1,9 @@
 -- What the options that commands share ask for: over which end scripts are run, and how.
-use Rattle.std.specs.Prelude.{◌≡◌, ◌≢◌, ◌⊎◌, ⊤, ℕ, Bool, true, false, not, List, Option, None, Some, codes, map}
+use Rattle.std.specs.Prelude.{◌≡◌, ◌≢◌, ◌⊎◌, ◌||◌, ⊤, ℕ, Bool, true, false, not, List, Option, None, Some, codes}
+use Rattle.std.specs.Prelude.{map}
 use Rattle.std.specs.Prelude.{IsTrue}
 use Rattle.std.specs.Borrow.{Bor}
+use Rattle.std.specs.Str.{bytes_eq}
 use Rattle.std.specs.Str.Iter.{HasSubslice}
 use Rattle.ws_wire.specs.declared.role.Role.{Role}
 use Rattle.ws_wire.specs.declared.role.Role.TheVariants as role
@@ -161,6 +163,26 @@ GivesMaxFail (Some word) (Some count) = IsCountWord 1000 count word.now
 abbrev pub HasMaxFail : Option (Bor (List ℕ)) → Type 0
 HasMaxFail word = (most : Option ℕ) × GivesMaxFail word most
 
+-- the option gives that so many cases run at a time, 1 to 100, and 1 where it is left out
+abbrev pub GivesAtOnce : Option (Bor (List ℕ)) → ℕ → Type 0
+GivesAtOnce None count = count ≡ 1
+GivesAtOnce (Some word) count = IsCountWord 100 count word.now
+
+-- it gives such a number, or is left out
+abbrev pub HasTestsAtOnce : Option (Bor (List ℕ)) → Type 0
+HasTestsAtOnce word = (count : ℕ) × GivesAtOnce word count
+
+-- the word names an end in memory
+abbrev pub is_memory_word : List ℕ → Bool
+is_memory_word word = bytes_eq word (codes "own") || bytes_eq word (codes "tung")
+
+-- The option says how many cases run at a time, and an end that this word names is tested in one after the other: a
+-- client, or one in memory.
+abbrev pub asks_in_turn : Option (Bor (List ℕ)) → Role → List ℕ → Bool
+asks_in_turn None tested word = false
+asks_in_turn (Some count) role.Client word = true
+asks_in_turn (Some count) role.Server word = is_memory_word word
+
 -- it is told that a run of a plan waits for its end: a server that is met over a network, without a limit of time
 abbrev pub tells_waits_for : TestedEnd → TimeLimit → Bool
 tells_waits_for (Server target) limit = not (is_limited limit)
@@ -236,6 +258,8 @@ CanNotRun options refusal.CaptureInReport = ⊥
 CanNotRun options refusal.TimeInMemory = ⊥
 CanNotRun options refusal.NotOneCase = ⊥
 CanNotRun options refusal.BadMaxFail = ⊥
+CanNotRun options refusal.AtOnceInTurn = ⊥
+CanNotRun options refusal.BadAtOnce = ⊥
 CanNotRun options (refusal.NoCases (NoSuchCase id)) = ⊥
 CanNotRun options (refusal.NoCases NoMemory) = ⊤
 
@@ -288,4 +312,8 @@ TellsRefusal refusal.TimeInMemory exit faults =
 TellsRefusal refusal.NotOneCase exit faults = (exit ≡ WrongWords) × Tells (codes "--capture takes one case\n") faults
 TellsRefusal refusal.BadMaxFail exit faults =
     (exit ≡ WrongWords) × Tells (codes "bad max-fail\n  a whole number, 1 to 1000: --max-fail 10\n") faults
+TellsRefusal refusal.AtOnceInTurn exit faults = (exit ≡ WrongWords)
+    × Tells (codes "--at-once does not go with own, tung, --role client or --capture\n") faults
+TellsRefusal refusal.BadAtOnce exit faults =
+    (exit ≡ WrongWords) × Tells (codes "bad at-once\n  a whole number, 1 to 100: --at-once 16\n") faults
 TellsRefusal (refusal.NoCases why) exit faults = TellsNoCases why exit faults

@@ -46,6 +46,10 @@ MovesOn gave gave_all last left case_of old new true = GivesNext gave left case_
 MovesOn {I} {S} gave gave_all last left case_of old new false =
     (start : S) (items : List I) → gave start old items → gave_all start new items
 
+-- whatever it gave until the first state, it gave until the second
+abbrev pub StaysGiving : {I S : Type 0} → Giving I S → S → S → Type 0
+StaysGiving {I} {S} gave old new = (start : S) (items : List I) → gave start old items → gave start new items
+
 -- ---- one call of a sink
 
 -- it was told of some, so few that 64 bits can count one more, and none of them runs

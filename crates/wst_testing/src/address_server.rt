@@ -1,16 +1,19 @@
 //! A server at an address of a network: each case is run over a connection of its own, by the loop that doesn't wait in
 //! a read.
 
-ghost use Rattle.std.specs.Prelude.{◌≡◌, IfOk, false};
+ghost use Rattle.std.specs.Prelude.{◌≡◌, [], IfOk, Some, false};
 ghost use Rattle.ws_frame.specs.Devices.{watched};
 ghost use Rattle.ws_frame.specs.Watching.{has_failed};
 ghost use Rattle.ws_scripts.specs.Scripts.{CanBeRun};
+ghost use Rattle.ws_connection.specs.Probing.{BeginsProbe, bytes_by_turn};
 ghost use Rattle.ws_connection.specs.UpgradeRequests.{CanBeAsked, request_value};
+ghost use Rattle.ws_handshake.specs.Probes.{WasProbed, wanted_of};
+ghost use Rattle.ws_machines.specs.Machines.{HasNext};
 ghost use Rattle.wst_commands.specs.TimeLimits.{is_limited};
 ghost use Rattle.wst_testing.specs.LineOutputs.{EndsOutput, ShowsMeeting};
 ghost use Rattle.wst_testing.specs.Servers.{IsMeetingBy, IsShownMeeting, MeetsAtAddress, ShowsAtAddress, asked_by};
 ghost use Rattle.wst_testing.specs.Servers.{MeetsBecause, ShowsBecause, asked_within, limits_within, meeting_at};
-ghost use Rattle.wst_testing.specs.Servers.{reason_of_end, reason_of_miss};
+ghost use Rattle.wst_testing.specs.Servers.{limits_of_server, plan_at, reason_of_end, reason_of_miss};
 ghost use Rattle.wst_sockets.specs.Connecting.{connect_fault_at};
 ghost use Rattle.wst_sockets.specs.declared.meeting.Meeting.TheVariants.{NoConnection};
 
@@ -21,10 +24,11 @@ use std::alloc::Global;
 use std::cell::Cell;
 use std::io::{ErrorKind, Write};
 use std::marker::Model;
-use std::slice;
+use std::{io, slice};
 use ws_base::NoMemory;
 use ws_connection::{Asked, Probe, UpgradeRequest, probe_machine};
 use ws_frame::{READ_SIZE, Watched};
+use ws_handshake::ProbeMachine;
 use ws_lines::Showing;
 use ws_loops::{LoopFault, NoLines, Poller, WaitFailed, Wake};
 use ws_networks::{Errand, Limits, Met, Missed, run_at};
@@ -96,6 +100,60 @@ impl<'a, N, C> AddressServer<'a, N, C> {
             },
             notice: Cell::new(Notice::of(plan.timeout)),
         }
+    }
+}
+
+impl<'a, N, C> AddressServer<'a, N, C> {
+    /// The address at which it is met.
+    pub fn address(&self) -> &'a str {
+        self.address
+    }
+
+    /// How long it is waited for, and how long a connection to it lasts.
+    pub fn limits(&self) -> Limits
+        ensures { result ≡ limits_of_server self.now }
+    {
+        self.bounds.limits()
+    }
+
+    /// The machine that asks for an upgrade, and then runs a case. Nothing was told it yet.
+    pub fn probe(
+        &self,
+        alloc: Global,
+        case: &Case,
+        key: [u8; 4],
+    ) -> Result<ProbeMachine<'a>, NoMemory>
+        requires { CanBeRun case.now }
+        ensures begins { IfOk result (BeginsProbe (plan_at self.now) (bytes_by_turn case.now (Some key))
+            self.now.request self.now.budget) }
+        ensures told { IfOk result (λ machine. WasProbed machine machine []) }
+        ensures goes_on { IfOk result (λ machine. HasNext (wanted_of machine)) }
+    {
+        let timeouts = self.bounds.timeout.is_limited();
+        let asked = Asked {
+            request: self.request,
+            key,
+            expected: self.expected,
+            has_timeouts: timeouts,
+        };
+        probe_machine(alloc, case, &asked, self.bounds.budget)
+    }
+}
+
+impl<'a, N: Network, C: Connector> AddressServer<'a, N, C> {
+    /// A new network, and what waits for its streams.
+    pub fn network(&self, alloc: Global) -> io::Result<(C::Network, C::Poller)> {
+        self.connector.network(alloc)
+    }
+
+    /// What tells of the waits of a run, of the case that is run.
+    pub fn teller<'r>(&'r self, alloc: Global, running: Running<'r>) -> WaitTeller<'r, N> {
+        WaitTeller::of(alloc, self.net, &self.notice, running)
+    }
+
+    /// Where it is told what stands beside the lines of a run.
+    pub fn notices(&self) -> N::Notices {
+        self.net.notices()
     }
 }
 
@@ -319,7 +377,7 @@ fn meeting_by<S: EndingStream + Drop>(
 }
 
 /// What came of a case, where its stream has ended so.
-fn meeting_of(probe: Probe, end: StreamEnd) -> Meeting
+pub fn meeting_of(probe: Probe, end: StreamEnd) -> Meeting
     ensures { result ≡ meeting_at probe (reason_of_end end) }
 {
     match probe {
@@ -342,7 +400,7 @@ fn end_fault(end: StreamEnd) -> ConnectFault
 
 /// What came of a case, where no connection was made for this reason. That memory ran out for the look-up is no reason
 /// of the network's.
-fn without_connection(why: Missed<ConnectMiss>) -> Result<Meeting, NoMemory>
+pub fn without_connection(why: Missed<ConnectMiss>) -> Result<Meeting, NoMemory>
     ensures { IfOk result (λ meeting. meeting ≡ NoConnection (reason_of_miss why)) }
 {
     match why {
@@ -386,12 +444,22 @@ pub struct TellingPoller<'a, P, N> {
 
 impl<'a, P, N> TellingPoller<'a, P, N> {
     /// One that waits by this poller, and tells of its waits so.
-    pub fn of(poller: P, teller: WaitTeller<'a, N>) -> TellingPoller<'a, P, N> {
+    pub fn of(poller: P, teller: WaitTeller<'a, N>) -> TellingPoller<'a, P, N>
+        ensures { result.poller ≡ poller }
+    {
         TellingPoller {
             poller,
             teller,
             asked: 0,
         }
+    }
+
+    /// The other poller.
+    pub fn into_poller(self) -> P
+        ensures { result ≡ self.entry.poller }
+    {
+        let TellingPoller { poller, .. } = self;
+        poller
     }
 }
 

@@ -27,7 +27,7 @@ mod sweeping;
 mod testing;
 mod tried;
 
-pub use address_server::{AddressServer, TellingPoller};
+pub use address_server::{AddressServer, TellingPoller, meeting_of, without_connection};
 pub use capturing::{capture_case, capture_text, tell_capture};
 pub use case_server::{CaseServer, MemoryEnd, MemoryPeer};
 pub use head_rules::head_rule;
@@ -39,9 +39,12 @@ pub use outcome::{
     tell_beside, total_line,
 };
 pub use run_plans::{
-    Refusal, RunPlan, TestedEnd, UsualTimes, is_url, max_fail_given, plan_run, tell_refusal,
+    Refusal, RunPlan, TestedEnd, UsualTimes, asks_in_turn, at_once_given, is_url, max_fail_given,
+    plan_run, tell_refusal,
 };
-pub use runner::{CaseSource, End, HasCase, ListedCases, RunStop, Sink, run_cases};
+pub use runner::{
+    CaseRunner, CaseSource, End, HasCase, InTurn, ListedCases, RunStop, Sink, run_cases,
+};
 pub use sweeping::{SweepRules, is_told, sweep_scripts, tell_sweep_end, total_of};
 pub use testing::{CaseRun, RunRules, refused_lines, tell_case, tell_progress, test_cases};
 pub use tried::tell_missed;

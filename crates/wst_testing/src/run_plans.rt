@@ -4,7 +4,8 @@ ghost use Rattle.std.specs.Prelude.{◌≡◌, ◌≢◌, ◌↔◌, IfOk, IsTru
 ghost use Rattle.ws_frame.specs.Devices.{watched};
 ghost use Rattle.wst_commands.specs.Devices.{Tells};
 ghost use Rattle.ws_connection.specs.RequestHeaders.{headers_in};
-ghost use Rattle.wst_testing.specs.RunPlans.{GivesMaxFail, HasHeaders, HasMaxFail, header_words};
+ghost use Rattle.wst_testing.specs.RunPlans.{GivesAtOnce, GivesMaxFail, HasTestsAtOnce, HasHeaders, HasMaxFail};
+ghost use Rattle.wst_testing.specs.RunPlans.{asks_in_turn, header_words, is_memory_word};
 ghost use Rattle.wst_testing.specs.RunPlans.{CanConnect, IsClientsAddress, IsConnectAddress, IsEndOf, IsRunPlan};
 ghost use Rattle.wst_testing.specs.RunPlans.{CanNotRun, IsUrl};
 ghost use Rattle.wst_testing.specs.RunPlans.{AdvisesClients, RefusesTarget, TellsRefusal, address_text, is_in_memory};
@@ -36,6 +37,9 @@ use wst_words::RunOptions;
 
 /// At most so many failures end a run.
 const MOST_FAILURES: u32 = 1000;
+
+/// At most so many cases run at a time.
+const MOST_AT_ONCE: u32 = 100;
 
 /// The end that scripts are run over.
 #[derive(Drop)]
@@ -173,6 +177,10 @@ pub enum Refusal<'a> {
     NotOneCase,
     /// The number of failures that are to end a run is none of 1 to 1000.
     BadMaxFail,
+    /// It is given how many cases run at a time, and they can run only one after the other.
+    AtOnceInTurn,
+    /// The number of cases that are to run at a time is none of 1 to 100.
+    BadAtOnce,
     /// A word stands for no case, or memory ran out.
     NoCases(NoCases<'a>),
 }
@@ -277,6 +285,36 @@ pub fn max_fail_given(word: Option<&str>) -> Option<Option<u32>>
         Some(count) => Some(Some(count)),
         None => None,
     }
+}
+
+/// How many cases run at a time, by the word of an option: a number of 1 to 100, and 1 where it is left out. `None`
+/// where the word is no such number.
+pub fn at_once_given(word: Option<&str>) -> Option<u32>
+    ensures { MatchOption result (¬ (HasTestsAtOnce word.entry)) (GivesAtOnce word.entry) }
+{
+    match word {
+        Some(word) => count_given(word, MOST_AT_ONCE),
+        None => Some(1),
+    }
+}
+
+/// Whether it is given how many cases run at a time, and the end stands in memory, or is a client: it is tested in one
+/// case after the other.
+pub fn asks_in_turn(at_once: Option<&str>, role: Role, target: &str) -> bool
+    ensures { result ≡ asks_in_turn at_once.entry role target.now }
+{
+    match (at_once, role) {
+        (Some(_), Role::Client) => true,
+        (Some(_), Role::Server) => is_memory_word(target),
+        (None, _) => false,
+    }
+}
+
+/// Whether a word names an end in memory.
+fn is_memory_word(word: &str) -> bool
+    ensures { result ≡ is_memory_word word.now }
+{
+    word == "own" || word == "tung"
 }
 
 /// Whether it is given how long a client is waited for, and a server is tested.
@@ -477,6 +515,14 @@ pub fn tell_refusal<F: Write>(alloc: Global, refusal: Refusal<'_>, faults: &mut 
         Refusal::NotOneCase => tell_wrong(b"--capture takes one case\n", faults),
         Refusal::BadMaxFail => tell_wrong(
             b"bad max-fail\n  a whole number, 1 to 1000: --max-fail 10\n",
+            faults,
+        ),
+        Refusal::AtOnceInTurn => tell_wrong(
+            b"--at-once does not go with own, tung, --role client or --capture\n",
+            faults,
+        ),
+        Refusal::BadAtOnce => tell_wrong(
+            b"bad at-once\n  a whole number, 1 to 100: --at-once 16\n",
             faults,
         ),
         Refusal::NoCases(why) => tell_no_cases(alloc, why, faults),

@@ -9,7 +9,7 @@ ghost use Rattle.ws_scripts.specs.Scripts.{CanBeRun};
 ghost use Rattle.wst_testing.specs.LineOutputs.{ShowsMeeting};
 ghost use Rattle.wst_testing.specs.Ends.{IsEndOfPlan};
 ghost use Rattle.wst_testing.specs.Runner.{AwaitsCase, AwaitsOutcome, HasGiven, HearsCase, HearsMeeting, IsListed};
-ghost use Rattle.wst_testing.specs.Runner.{MovesOn, RunsEach};
+ghost use Rattle.wst_testing.specs.Runner.{MovesOn, RunsEach, StaysGiving};
 
 use crate::address_server::AddressServer;
 use crate::case_server::{CaseServer, MemoryEnd};
@@ -98,6 +98,12 @@ pub trait CaseSource {
     /// At most so many more are given.
     ghost left: { Self → ℕ };
 
+    /// One that it gave, which is kept beside later ones.
+    type Kept: Drop;
+
+    /// What is kept.
+    ghost kept_item: { Self.Kept → Self.Item };
+
     /// Gives the next one, if there is one.
     fn advance(&mut self, alloc: Global) -> Result<bool, NoMemory>
         ensures { IfOk result (MovesOn gave gave_all last left Self.Item.case_of self.old self.new) };
@@ -106,6 +112,17 @@ pub trait CaseSource {
     fn item(&self) -> &Self::Item
         requires { HasGiven (last self.now) }
         ensures { last self.now ≡ Some result.now };
+
+    /// What it gave last, to be kept beside later ones.
+    fn keep(&mut self) -> Self::Kept
+        requires { HasGiven (last self.old) }
+        ensures kept { last self.old ≡ Some (kept_item result) }
+        ensures gave { StaysGiving gave self.old self.new }
+        ensures left { left self.new ≡ left self.old };
+
+    /// What is kept.
+    fn kept(kept: &Self::Kept) -> &Self::Item
+        ensures { result.now ≡ kept_item kept.now };
 }
 
 /// It is told of what is run, one after the other: that it runs next, and then what came of it. It may end the run.
@@ -141,6 +158,49 @@ pub trait Sink {
         requires { AwaitsOutcome heard self.old item.now }
         ensures heard { HearsMeeting heard stopped self.old self.new item.now meeting result }
         ensures borrows { borrows self.new ≡ borrows self.old };
+}
+
+/// It runs cases over tested ends, each over a new one.
+pub trait CaseRunner {
+    ghost use Rattle.std.specs.Prelude.{List, ℕ};
+    ghost use Rattle.ws_scripts.specs.declared.script.Case.{Case};
+    ghost use Rattle.wst_sockets.specs.declared.meeting.Meeting.{Meeting};
+
+    /// With this masking key, this may come of this case over a new end.
+    ghost meets: { Self → List ℕ → Case → Meeting → Type 0 };
+
+    /// Runs the cases that a source gives. The sink is told of them in their order: of each that it runs, and then of
+    /// what came of it.
+    fn run_each<S: CaseSource, K: Sink<Item = S::Item>>(
+        &self,
+        alloc: Global,
+        key: [u8; 4],
+        source: &mut S,
+        sink: &mut K,
+    ) -> Result<(), RunStop>
+        requires unused { S.gave source.old source.old [] }
+        requires fresh { K.heard sink.old sink.old [] None }
+        ensures runs { RunsEach S.Item.case_of (meets self.now key) S.gave S.gave_all K.heard K.stopped source.old
+            sink.old sink.new result }
+        ensures borrows { K.borrows sink.new ≡ K.borrows sink.old };
+}
+
+/// It runs cases one after the other over ends of this kind.
+#[derive(Clone, Copy)]
+pub struct InTurn<'e, E>(pub &'e E);
+
+impl<E: CaseServer> CaseRunner for InTurn<'_, E> {
+    ghost meets = { λ one key case meeting. E.meets one.0.now key case meeting };
+
+    fn run_each<S: CaseSource, K: Sink<Item = S::Item>>(
+        &self,
+        alloc: Global,
+        key: [u8; 4],
+        source: &mut S,
+        sink: &mut K,
+    ) -> Result<(), RunStop> {
+        run_cases(alloc, self.0, key, source, sink)
+    }
 }
 
 /// An end that is tested. Each case is run over a new one.
@@ -258,7 +318,7 @@ impl<'a> ListedCases<'a> {
     }
 }
 
-impl CaseSource for ListedCases<'_> {
+impl<'a> CaseSource for ListedCases<'a> {
     ghost use Rattle.std.specs.Prelude.{length};
     ghost use Rattle.wst_testing.specs.Runner.{GaveAllOfList, GaveOfList};
 
@@ -271,6 +331,10 @@ impl CaseSource for ListedCases<'_> {
     ghost last = { λ listed. listed.last };
 
     ghost left = { λ listed. length listed.rest };
+
+    type Kept = &'a Case;
+
+    ghost kept_item = { λ kept. kept.now };
 
     fn advance(&mut self, _alloc: Global) -> Result<bool, NoMemory> {
         match self.rest.split_first() {
@@ -288,5 +352,16 @@ impl CaseSource for ListedCases<'_> {
             Some(case) => case,
             None => unreachable!(),
         }
+    }
+
+    fn keep(&mut self) -> &'a Case {
+        match self.last {
+            Some(case) => case,
+            None => unreachable!(),
+        }
+    }
+
+    fn kept<'k>(kept: &'k &'a Case) -> &'k Case {
+        kept
     }
 }

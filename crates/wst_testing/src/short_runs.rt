@@ -113,6 +113,10 @@ impl CaseSource for ShortRuns {
 
     ghost left = { λ runs. runs.scripts.left };
 
+    type Kept = ShortRun;
+
+    ghost kept_item = { λ run. run };
+
     fn advance(&mut self, alloc: Global) -> Result<bool, NoMemory> {
         give_back(&mut self.cases, self.last.take());
         let Some(script) = self.scripts.next() else {
@@ -128,6 +132,17 @@ impl CaseSource for ShortRuns {
             Some(run) => run,
             None => unreachable!(),
         }
+    }
+
+    fn keep(&mut self) -> ShortRun {
+        match self.last.take() {
+            Some(run) => run,
+            None => unreachable!(),
+        }
+    }
+
+    fn kept(kept: &ShortRun) -> &ShortRun {
+        kept
     }
 }
 

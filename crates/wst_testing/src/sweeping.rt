@@ -1,5 +1,5 @@
-//! Every short script run over new ends: each is judged, and its line is written where there is one to tell, before
-//! the next one runs.
+//! Every short script run over new ends: each is judged, and its line is written where there is one to tell, in their
+//! order.
 
 ghost use Rattle.std.specs.Prelude.{◌≡◌, ◌+◌, ◌<◌, ◌^◌, ◌≤◌, IfOk, OnErr, OnOk, false, string_bytes};
 ghost use Rattle.ws_frame.specs.Devices.{watched};
@@ -11,11 +11,10 @@ ghost use Rattle.wst_testing.specs.Notes.{TellsEach};
 ghost use Rattle.wst_testing.specs.Sweeps.{CountsScripts, IsCounted, SweepsScripts, TellsSweepEnd, is_told};
 ghost use Rattle.wst_testing.specs.Sweeps.{missed_by, script_line, script_notes, sweep_total, swept, whole_text};
 
-use crate::case_server::CaseServer;
 use crate::hinting::{HintState, tell_hint};
 use crate::outcome::{Outcome, Tally, is_enough};
 use crate::run_plans::TestedEnd;
-use crate::runner::{RunStop, Sink, run_cases};
+use crate::runner::{CaseRunner, RunStop, Sink};
 use crate::short_runs::{ShortRun, ShortRuns};
 use crate::testing::{RunRules, judged};
 use crate::tried::tell_missed;
@@ -44,34 +43,34 @@ pub struct SweepRules {
 /// Every script of at most so many steps is run in their order, each over a new end, and its line is written, where
 /// there is one to tell, as soon as it is judged, and the total last. Enough Fails end the run, and the total of what
 /// was run stands behind them.
-pub fn sweep_scripts<S: CaseServer, W: Write, F: Write>(
+pub fn sweep_scripts<R: CaseRunner, W: Write, F: Write>(
     alloc: Global,
-    server: &S,
+    runner: &R,
     rules: SweepRules,
     writer: &mut Watched<W>,
     faults: &mut Watched<F>,
 ) -> Result<Exit, RunStop>
     requires works { has_failed writer.old ≡ false }
     requires steps { rules.steps ≤ max_steps }
-    ensures { SweepsScripts (S.meets server.now rules.run.key) rules result (watched W.contents writer.old writer.new) }
+    ensures { SweepsScripts (R.meets runner.now rules.run.key) rules result (watched W.contents writer.old writer.new) }
 {
-    let (count, tally) = run_scripts(alloc, server, rules, writer, faults)?;
+    let (count, tally) = run_scripts(alloc, runner, rules, writer, faults)?;
     let total = total_of(alloc, count, tally)?;
     write_whole(writer, total.as_bytes())?;
     Ok(tally.exit())
 }
 
 /// Runs the scripts, and counts them, and what was told of the tested end in them.
-fn run_scripts<S: CaseServer, W: Write, F: Write>(
+fn run_scripts<R: CaseRunner, W: Write, F: Write>(
     alloc: Global,
-    server: &S,
+    runner: &R,
     rules: SweepRules,
     writer: &mut Watched<W>,
     faults: &mut Watched<F>,
 ) -> Result<(usize, Tally), RunStop>
     requires works { has_failed writer.old ≡ false }
     requires steps { rules.steps ≤ max_steps }
-    ensures { CountsScripts (S.meets server.now rules.run.key) rules result (watched W.contents writer.old writer.new) }
+    ensures { CountsScripts (R.meets runner.now rules.run.key) rules result (watched W.contents writer.old writer.new) }
 {
     let mut runs = ShortRuns::of(rules);
     let mut sweeper = Sweeper {
@@ -82,7 +81,7 @@ fn run_scripts<S: CaseServer, W: Write, F: Write>(
         writer,
         faults,
     };
-    let ended = run_cases(alloc, server, rules.run.key, &mut runs, &mut sweeper);
+    let ended = runner.run_each(alloc, rules.run.key, &mut runs, &mut sweeper);
     counted(ended, sweeper.count, sweeper.tally)
 }
 

@@ -1,4 +1,4 @@
-//! Cases run over new ends: each is judged, and its line is written, before the next one runs.
+//! Cases run over new ends: each is judged, and its line is written, in their order.
 
 ghost use Rattle.std.specs.Prelude.{◌≡◌, ◌+◌, ◌<◌, ◌^◌, List, ℕ, IfOk, MatchResult, OnErr, OnOk, false, true};
 ghost use Rattle.std.specs.Prelude.{◌++◌, if◌then◌else◌, string_bytes};
@@ -15,11 +15,10 @@ ghost use Rattle.wst_testing.specs.Testing.{IsOutcomeOf, IsTested, RunsCases, te
 ghost use Rattle.wst_commands.specs.declared.fault.Fault.TheVariants as variant;
 ghost use Rattle.wst_testing.specs.declared.outcome.Outcome.TheVariants.{NoConnection};
 
-use crate::case_server::CaseServer;
 use crate::hinting::{HintState, tell_hint};
 use crate::outcome::{Below, Outcome, Reported, Score, ToldRefusal, report_case, tell_end};
 use crate::run_plans::TestedEnd;
-use crate::runner::{ListedCases, RunStop, Sink, run_cases};
+use crate::runner::{CaseRunner, ListedCases, RunStop, Sink};
 use crate::tried::tell_tried;
 use std::alloc::Global;
 use std::io::Write;
@@ -76,9 +75,9 @@ struct Total<'a> {
 /// no connection, or the third in a row. Behind enough failures it ends too, and the total is that of what was run. Why
 /// there is no connection is told to `faults`, at which address it was refused where that ended the run, the name of a
 /// case where that is asked for, and what the first ten cases have in common, where that says what to type.
-pub fn test_cases<S: CaseServer, W: Write, F: Write>(
+pub fn test_cases<R: CaseRunner, W: Write, F: Write>(
     alloc: Global,
-    server: &S,
+    runner: &R,
     run: CaseRun<'_>,
     report: &Report,
     writer: &mut Watched<W>,
@@ -86,7 +85,7 @@ pub fn test_cases<S: CaseServer, W: Write, F: Write>(
 ) -> Result<Exit, Fault>
     requires works { has_failed writer.old ≡ false }
     requires can_be_run { All CanBeRun run.cases.now }
-    ensures runs { RunsCases (S.meets server.now run.entry.rules.key) run.entry.rules report.now run.entry.cases.now
+    ensures runs { RunsCases (R.meets runner.now run.entry.rules.key) run.entry.rules report.now run.entry.cases.now
         run.entry.tested.now result (watched W.contents writer.old writer.new)
         (watched F.contents faults.old faults.new) }
     ensures still { StaysFailed faults.old faults.new }
@@ -107,7 +106,7 @@ pub fn test_cases<S: CaseServer, W: Write, F: Write>(
         faults,
     };
     let mut listed = ListedCases::of(cases);
-    let ended = run_cases(alloc, server, rules.key, &mut listed, &mut reporter);
+    let ended = runner.run_each(alloc, rules.key, &mut listed, &mut reporter);
     match ended {
         Ok(()) => tell_end(alloc, report, &score, writer, faults),
         Err(why) => {

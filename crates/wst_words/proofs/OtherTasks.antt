@@ -164,13 +164,14 @@ run_lacks rows options more none (inr (inr (inr (inr (inr (inr (inr (inr (inr (i
 
 -- what `test`, `send` and `sweep` have beside them
 abbrev sweep_own : List ArgumentRow
-sweep_own = argument (codes "max-fail") Word ∷ argument_or (codes "steps") Number (codes "2")
-    ∷ argument (codes "all") Flag ∷ argument (codes "progress") Flag ∷ []
+sweep_own = argument (codes "max-fail") Word ∷ argument (codes "at-once") Word
+    ∷ argument_or (codes "steps") Number (codes "2") ∷ argument (codes "all") Flag
+    ∷ argument (codes "progress") Flag ∷ []
 
 abbrev test_own : List ArgumentRow
-test_own = argument (codes "max-fail") Word ∷ argument (codes "capture") Flag ∷ argument (codes "explain") Flag
-    ∷ argument_or (codes "data") Style (codes "hex") ∷ argument (codes "progress") Flag
-    ∷ argument (codes "summary") Flag ∷ argument (codes "known") Flag ∷ argument (codes "junit") Flag
+test_own = argument (codes "max-fail") Word ∷ argument (codes "at-once") Word ∷ argument (codes "capture") Flag
+    ∷ argument (codes "explain") Flag ∷ argument_or (codes "data") Style (codes "hex")
+    ∷ argument (codes "progress") Flag ∷ argument (codes "summary") Flag ∷ argument (codes "known") Flag ∷ argument (codes "junit") Flag
     ∷ argument (codes "ids") Words ∷ []
 
 abbrev send_own : List ArgumentRow
@@ -183,15 +184,16 @@ test_lacks rows options lacks asks = run_lacks rows options.run test_own none la
   where
     none : LacksOneOf rows test_own → ⊥
     none (inl most) = absurd most
-    none (inr (inl capture)) = capture options.capture asks.capture
-    none (inr (inr (inl explain))) = explain options.explain asks.explain
-    none (inr (inr (inr (inl shown)))) = shown options.style asks.style
-    none (inr (inr (inr (inr (inl progress))))) = progress options.progress asks.progress
-    none (inr (inr (inr (inr (inr (inl summary)))))) = summary options.summary asks.summary
-    none (inr (inr (inr (inr (inr (inr (inl known))))))) = known options.known asks.known
-    none (inr (inr (inr (inr (inr (inr (inr (inl junit)))))))) = junit options.junit asks.junit
-    none (inr (inr (inr (inr (inr (inr (inr (inr (inl ids))))))))) = absurd ids
-    none (inr (inr (inr (inr (inr (inr (inr (inr (inr other))))))))) = absurd other
+    none (inr (inl at_once)) = absurd at_once
+    none (inr (inr (inl capture))) = capture options.capture asks.capture
+    none (inr (inr (inr (inl explain)))) = explain options.explain asks.explain
+    none (inr (inr (inr (inr (inl shown))))) = shown options.style asks.style
+    none (inr (inr (inr (inr (inr (inl progress)))))) = progress options.progress asks.progress
+    none (inr (inr (inr (inr (inr (inr (inl summary))))))) = summary options.summary asks.summary
+    none (inr (inr (inr (inr (inr (inr (inr (inl known)))))))) = known options.known asks.known
+    none (inr (inr (inr (inr (inr (inr (inr (inr (inl junit))))))))) = junit options.junit asks.junit
+    none (inr (inr (inr (inr (inr (inr (inr (inr (inr (inl ids)))))))))) = absurd ids
+    none (inr (inr (inr (inr (inr (inr (inr (inr (inr (inr other)))))))))) = absurd other
 
 pub no_test : (name : Text) (rows : List Row) → name ≡ codes "test" → LacksOneOf rows test_command.arguments
     → CommandAsksNothing (Some (name, rows))
@@ -301,10 +303,11 @@ sweep_lacks rows options lacks asks = run_lacks rows options.run sweep_own none 
   where
     none : LacksOneOf rows sweep_own → ⊥
     none (inl most) = absurd most
-    none (inr (inl steps)) = steps options.steps asks.steps
-    none (inr (inr (inl all))) = all options.all asks.all
-    none (inr (inr (inr (inl progress)))) = progress options.progress asks.progress
-    none (inr (inr (inr (inr other)))) = absurd other
+    none (inr (inl at_once)) = absurd at_once
+    none (inr (inr (inl steps))) = steps options.steps asks.steps
+    none (inr (inr (inr (inl all)))) = all options.all asks.all
+    none (inr (inr (inr (inr (inl progress))))) = progress options.progress asks.progress
+    none (inr (inr (inr (inr (inr other))))) = absurd other
 
 pub no_sweep : (name : Text) (rows : List Row) → name ≡ codes "sweep" → LacksOneOf rows sweep_command.arguments
     → CommandAsksNothing (Some (name, rows))

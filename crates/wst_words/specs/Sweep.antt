@@ -14,6 +14,7 @@ sweep_command = record {
   name = codes "sweep";
   arguments = run_arguments_without_timeout
       ++ argument (codes "max-fail") Word
+      ∷ argument (codes "at-once") Word
       ∷ argument_or (codes "steps") Number (codes "2")
       ∷ argument (codes "all") Flag
       ∷ argument (codes "progress") Flag ∷ [];
@@ -23,6 +24,7 @@ sweep_command = record {
 pub record AsksToSweep (rows : List Row) (options : SweepOptions) : Type 0 where
   pub run : AsksForRun rows options.run
   pub max_fail : GivesWord rows (codes "max-fail") options.max_fail
+  pub at_once : GivesWord rows (codes "at-once") options.at_once
   pub steps : GivesNumber rows (codes "steps") options.steps
   pub all : GivesFlag rows (codes "all") options.all
   pub progress : GivesFlag rows (codes "progress") options.progress

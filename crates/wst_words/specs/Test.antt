@@ -14,6 +14,7 @@ test_command = record {
   name = codes "test";
   arguments = run_arguments_without_timeout
       ++ argument (codes "max-fail") Word
+      ∷ argument (codes "at-once") Word
       ∷ argument (codes "capture") Flag
       ∷ argument (codes "explain") Flag
       ∷ argument_or (codes "data") Style (codes "hex")
@@ -28,6 +29,7 @@ test_command = record {
 pub record AsksToTest (rows : List Row) (options : TestOptions) : Type 0 where
   pub run : AsksForRun rows options.run
   pub max_fail : GivesWord rows (codes "max-fail") options.max_fail
+  pub at_once : GivesWord rows (codes "at-once") options.at_once
   pub capture : GivesFlag rows (codes "capture") options.capture
   pub explain : GivesFlag rows (codes "explain") options.explain
   pub style : GivesStyle rows (codes "data") options.style

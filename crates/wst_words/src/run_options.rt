@@ -113,6 +113,16 @@ pub(crate) const MAX_FAIL: Argument = Argument {
     help: "Stop after N FAILs or missing connections, 1 to 1000",
 };
 
+/// How many cases run at a time, which `send` doesn't know.
+pub(crate) const AT_ONCE: Argument = Argument {
+    name: "at-once",
+    kind: Word,
+    default: None,
+    value_name: "N",
+    heading: Some("Limits"),
+    help: "Connections at a time, 1 to 100 [default: 1]",
+};
+
 pub(crate) const PROTOCOLS: Argument = Argument {
     name: "protocols",
     kind: Word,

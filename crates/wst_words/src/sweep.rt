@@ -12,8 +12,8 @@ use crate::arguments::ArgumentKind::{Flag, Number};
 use crate::commands::HelpText;
 use crate::options::{flag_of, number_of, word_of};
 use crate::run_options::{
-    BUDGET, CONNECT, DEADLINE, EXPECT, HEADER, KEY, MAX_FAIL, PROTOCOLS, ROLE, RunOptions, TARGET,
-    TIMEOUT, WAIT, run_options,
+    AT_ONCE, BUDGET, CONNECT, DEADLINE, EXPECT, HEADER, KEY, MAX_FAIL, PROTOCOLS, ROLE, RunOptions,
+    TARGET, TIMEOUT, WAIT, run_options,
 };
 use clap::ArgMatches;
 use std::alloc::{AllocError, Global};
@@ -25,6 +25,8 @@ pub struct SweepOptions<'a> {
     pub run: RunOptions<'a>,
     /// Behind so many failures, as a word, the run ends, where that is given.
     pub max_fail: Option<&'a str>,
+    /// So many scripts run at a time, as a word, where that is given.
+    pub at_once: Option<&'a str>,
     /// Scripts of at most so many steps.
     pub steps: u64,
     /// Those that are LOOSE are told too.
@@ -34,7 +36,7 @@ pub struct SweepOptions<'a> {
 }
 
 /// Its arguments.
-static ARGUMENTS: [Argument; 15] = [
+static ARGUMENTS: [Argument; 16] = [
     ROLE,
     EXPECT,
     KEY,
@@ -47,6 +49,7 @@ static ARGUMENTS: [Argument; 15] = [
     CONNECT,
     TARGET,
     MAX_FAIL,
+    AT_ONCE,
     Argument {
         name: "steps",
         kind: Number,
@@ -108,6 +111,7 @@ fn options_with<'a>(options: &ArgMatches<'a>, run: RunOptions<'a>) -> Option<Swe
     Some(SweepOptions {
         run,
         max_fail: word_of(options, "max-fail"),
+        at_once: word_of(options, "at-once"),
         steps,
         all,
         progress,
@@ -129,7 +133,8 @@ const AFTER_HELP: &str =
 close=1000 is added where no step ends the connection. Short ones run first: the
 first that is printed is among the shortest that break a rule. Up to 2 steps are
 757 scripts, 3 are 20440, and 4 are 551881. With --role client, a client for
-Autobahn's fuzzing server can be tested unchanged, as with `test`.
+Autobahn's fuzzing server can be tested unchanged, as with `test`. With
+--at-once, a server that accepts one connection at a time lets the others wait.
 
 Exit status:
   0  no FAIL

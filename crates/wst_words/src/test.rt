@@ -13,8 +13,8 @@ use crate::commands::HelpText;
 use crate::judge::EXPLAINED_DATA_HELP;
 use crate::options::{flag_of, style_of, word_of, words_of};
 use crate::run_options::{
-    BUDGET, CONNECT, DEADLINE, EXPECT, HEADER, KEY, MAX_FAIL, PROTOCOLS, ROLE, RunOptions, TARGET,
-    TIMEOUT, WAIT, run_options,
+    AT_ONCE, BUDGET, CONNECT, DEADLINE, EXPECT, HEADER, KEY, MAX_FAIL, PROTOCOLS, ROLE, RunOptions,
+    TARGET, TIMEOUT, WAIT, run_options,
 };
 use crate::show::DATA;
 use clap::ArgMatches;
@@ -28,6 +28,8 @@ pub struct TestOptions<'a> {
     pub run: RunOptions<'a>,
     /// Behind so many failures, as a word, the run ends, where that is given.
     pub max_fail: Option<&'a str>,
+    /// So many cases run at a time, as a word, where that is given.
+    pub at_once: Option<&'a str>,
     /// The capture is written in place of the verdict.
     pub capture: bool,
     /// Below a verdict other than PASS it is told why.
@@ -47,7 +49,7 @@ pub struct TestOptions<'a> {
 }
 
 /// Its arguments.
-static ARGUMENTS: [Argument; 20] = [
+static ARGUMENTS: [Argument; 21] = [
     ROLE,
     EXPECT,
     KEY,
@@ -60,6 +62,7 @@ static ARGUMENTS: [Argument; 20] = [
     CONNECT,
     TARGET,
     MAX_FAIL,
+    AT_ONCE,
     Argument {
         name: "capture",
         kind: Flag,
@@ -168,6 +171,7 @@ fn options_with<'a>(
     Some(TestOptions {
         run,
         max_fail: word_of(options, "max-fail"),
+        at_once: word_of(options, "at-once"),
         capture,
         explain,
         style,
@@ -192,8 +196,8 @@ pub(crate) fn help<'a>() -> HelpText<'a> {
 const AFTER_HELP: &str =
     "Each case gives PASS, LOOSE WHY (permitted, but not the reference behaviour),
 FAIL WHY (a rule is broken), FAIL Head NAME (the handshake failed; --header and
---protocols may mend it) or `no connection`. `wst judge --help` explains the
-lines of --explain, and `man wst` all of these words.
+--protocols may mend it) or `no connection` (with --at-once, also if the server
+accepts one at a time). See `wst judge --help` for --explain, `man wst` for all.
 With --role client, start your client after `listening on`: it must reconnect
 for each next case. Clients for Autobahn's fuzzing server run unchanged.
 
@@ -204,7 +208,6 @@ Exit status:
   3  no connection (with --timeout, three in a row), I/O or memory error
 
 Examples:
-  # an echo; any other server; a client, which connects once per case
   wst test --timeout 5 --explain ws://localhost:9001/echo
   wst test --timeout 5 --expect protocol ws://localhost:9001/chat
   wst test --timeout 5 --wait 60 --role client 127.0.0.1:9001";

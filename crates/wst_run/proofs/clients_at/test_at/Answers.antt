@@ -19,6 +19,9 @@ visit_at-requires-clause-protocols g c = c.visit_rules-rules.ensures.rules.proto
 pub visit_at-requires-clause-wait : goal.visit_at-requires-clause-wait
 visit_at-requires-clause-wait g c = c.visit_rules-rules.ensures.rules.wait
 
+pub visit_at-requires-clause-limited : goal.visit_at-requires-clause-limited
+visit_at-requires-clause-limited g c = c.visit_rules-rules.ensures.rules.has_timeouts
+
 pub returns-clause-tests : goal.returns-clause-tests
 returns-clause-tests g c = (
   c.visit_rules-rules.result,

@@ -9,7 +9,7 @@ use Rattle.wst_sockets.specs.Listening.{IsToldFor}
 use Rattle.wst_sockets.specs.declared.waits.Waits.{Waits}
 use Rattle.wst_commands.specs.TimeLimits.{milliseconds_of}
 use Rattle.wst_sockets.specs.Listening.{CanNotListen}
-use Rattle.wst_run.proofs.ClientRunLemmas.{none_heard, none_lacks, visits_by, waits_as}
+use Rattle.wst_run.proofs.ClientRunLemmas.{limited_so, none_heard, none_lacks, visits_by, waits_as}
 use Rattle.wst_run.proofs.clients_at.visit_at.Goals as goal
 
 pub returns-in_err-heard-clause-tests : goal.returns-in_err-heard-clause-tests
@@ -34,6 +34,11 @@ test_told-requires-clause-are g c = waits_as c.in_ok-visitors.visitors _ _ _ _
     (c.as_slice.ensures.names ∙ sym c.requires.protocols)
     (ap (λ (w : Waits). milliseconds_of w.client) c.waits_of.ensures
     ∙ ap (λ (limit : TimeLimit). milliseconds_of limit) (sym c.requires.wait)) c.in_ok-visitors.ensures.are
+
+pub test_told-requires-clause-limited : goal.test_told-requires-clause-limited
+test_told-requires-clause-limited g c = limited_so c.in_ok-visitors.visitors.clients.limits c.waits_of.result
+    c.args.run.now.timeout c.in_ok-visitors.ensures.limits (ap (λ (w : Waits). w.byte) c.waits_of.ensures)
+    ∙ sym c.requires.limited
 
 pub returns-clause-tests : goal.returns-clause-tests
 returns-clause-tests g c =

@@ -6,10 +6,10 @@ use Rattle.wst_run.proofs.sweep.sweep_target.Goals as goal
 pub returns-in-Ok : goal.returns-in-Ok
 returns-in-Ok g c =
     let plan = c.args.plan.now in
-    let output = watched g.W.Write.contents c.args.writer.now c.sweep_over.new.writer in
-    let faults = watched g.F.Write.contents c.args.faults.now c.sweep_over.new.faults in
-    sweeps_end plan.run.tested plan c.in-Ok.end c.sweep_over.result output faults c.in-Ok.ensures
-    c.sweep_over.ensures
+    let output = watched g.W.Write.contents c.args.writer.now c.sweep_end.new.writer in
+    let faults = watched g.F.Write.contents c.args.faults.now c.sweep_end.new.faults in
+    sweeps_end plan.run.tested plan c.in-Ok.end c.sweep_end.result output faults c.in-Ok.ensures
+    c.sweep_end.ensures
 
 pub returns-in-Err : goal.returns-in-Err
 returns-in-Err g c =

@@ -11,4 +11,5 @@ returns-clause-fits c =
     let cases = c.in_ok-cases.cases.items in
     let are : AreCasesFor (or_all (names_of ids)) cases = search rules in
     let one : c.args.options.now.capture ≡ true → is_one_case (names_of ids) ≡ true = search rules in
-    (cases_run (or_all (names_of ids)) cases are, λ capture. cases_counted ids cases (one capture) are)
+    let alone : c.args.options.now.capture ≡ true → c.in-Some-at_once_given.at_once ≡ 1 = search rules in
+    (cases_run (or_all (names_of ids)) cases are, (λ capture. cases_counted ids cases (one capture) are), alone)

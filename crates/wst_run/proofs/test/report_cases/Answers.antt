@@ -51,10 +51,10 @@ returns-clause-runs g c =
     let works : has_failed c.deliver-begun.new.writer ≡ false = sym c.failed.ensures ∙ c.if-failed.false in
     let tested = watched g.W.Write.contents c.deliver-begun.new.writer c.test_cases-ended.new.writer in
     let faults = watched g.F.Write.contents c.args.faults.now c.test_cases-ended.new.faults in
-    let by_rules = subst (λ (r : RunRules). RunsCases (g.S.CaseServer.meets c.args.server.now r.key) r report
+    let by_rules = subst (λ (r : RunRules). RunsCases (g.R.CaseRunner.meets c.args.runner.now r.key) r report
     c.as_slice.result.now plan.run.tested c.test_cases-ended.result tested faults) c.rules_of-rules.ensures
     c.test_cases-ended.ensures.runs in
-    let runs = subst (λ (l : List Case). RunsCases (g.S.CaseServer.meets c.args.server.now plan.run.key) (rules_of plan) report l
+    let runs = subst (λ (l : List Case). RunsCases (g.R.CaseRunner.meets c.args.runner.now plan.run.key) (rules_of plan) report l
     plan.run.tested c.test_cases-ended.result tested faults) c.as_slice.ensures.value by_rules in
     inl (record {
       begun = first.new;

@@ -8,7 +8,7 @@ use Rattle.wst_testing.proofs.sweeping.sweep_scripts.Goals as goal
 
 pub returns-in_err-write_whole : goal.returns-in_err-write_whole
 returns-in_err-write_whole g c =
-    let Meets = g.S.CaseServer.meets c.args.server.now c.args.rules.run.key in
+    let Meets = g.R.CaseRunner.meets c.args.runner.now c.args.rules.run.key in
     let given = c.args.rules in
     let count = c.in_ok-count.count in
     let tally = c.in_ok-count.tally in

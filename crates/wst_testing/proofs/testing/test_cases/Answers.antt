@@ -14,8 +14,8 @@ use Rattle.wst_testing.proofs.ReporterLemmas.{reported_nothing, run_ended, run_t
 use Rattle.wst_testing.proofs.RunnerLemmas.{holds_at_the_end}
 use Rattle.wst_testing.proofs.testing.test_cases.Goals as goal
 
-pub run_cases-ended-requires-clause-fresh : goal.run_cases-ended-requires-clause-fresh
-run_cases-ended-requires-clause-fresh g c = (
+pub run_each-ended-requires-clause-fresh : goal.run_each-ended-requires-clause-fresh
+run_each-ended-requires-clause-fresh g c = (
   refl,
   refl,
   reported_nothing c.args.run.rules c.args.report.now c.of.result.left c.new-score.result c.of.result
@@ -32,7 +32,7 @@ returns-in-Ok-clause-runs g c =
     let place = hint_place (length c.args.run.cases.now) in
     let all : c.of-listed.result.rest ≡ c.args.run.cases.now = search rules in
     let (kept, same, so, still) = runs.told in
-    let new = c.run_cases-ended.new.sink in
+    let new = c.run_each-ended.new.sink in
     let writer = c.writer-1.given.0 in
     let faults = c.faults-1.given.0 in
     let written : writer ≡ new.writer.now = search rules in
@@ -49,7 +49,7 @@ returns-in-Ok-clause-runs g c =
     let ended = subst (λ (t : Score). EndsReporting c.args.report.now t c.tell_end.result
     (c.tell_end.new.writer ≡ writer) (c.tell_end.new.faults ≡ faults) (watched g.W.Write.contents writer c.tell_end.new.writer)
     (watched g.F.Write.contents faults c.tell_end.new.faults)) scored c.tell_end.ensures.is in
-    run_told (g.S.CaseServer.meets c.args.server.now c.args.run.rules.key) c.args.run.rules c.args.report.now c.args.run.cases.now c.args.run.tested.now
+    run_told (g.R.CaseRunner.meets c.args.runner.now c.args.run.rules.key) c.args.run.rules c.args.report.now c.args.run.cases.now c.args.run.tested.now
     runs.came new.score.now new.missed new.hint (g.W.Write.contents (inner_of c.args.writer.now))
     (g.W.Write.contents (inner_of writer)) (g.W.Write.contents (inner_of c.tell_end.new.writer)) (has_failed writer)
     (has_failed c.tell_end.new.writer) (has_failed faults) (has_failed c.tell_end.new.faults)
@@ -62,11 +62,11 @@ returns-in-Ok-clause-runs g c =
 
 pub stopped_by-requires : goal.stopped_by-requires
 stopped_by-requires g c =
-    let new = c.run_cases-ended.new.sink in
+    let new = c.run_each-ended.new.sink in
     let place = hint_place (length c.args.run.cases.now) in
     let writer = c.writer-1.given.0 in
     let written : writer ≡ new.writer.now = search rules in
-    run_works (g.S.CaseServer.meets c.args.server.now c.args.run.rules.key) c.args.run.rules c.args.report.now c.args.run.cases.now c.args.run.tested.now
+    run_works (g.R.CaseRunner.meets c.args.runner.now c.args.run.rules.key) c.args.run.rules c.args.report.now c.args.run.cases.now c.args.run.tested.now
     _ _ c.of-listed.result _ new new.score.now c.in-Err.why (watched g.W.Write.contents c.args.writer.now writer)
     (watched g.F.Write.contents c.args.faults.now new.faults.now)
     (λ came why (so, still). subst (λ w. StopsReport c.args.run.rules c.args.report.now place came new.score.now why
@@ -78,7 +78,7 @@ stopped_by-requires g c =
 
 pub returns-clause-runs : goal.returns-clause-runs
 returns-clause-runs g c =
-    let new = c.run_cases-ended.new.sink in
+    let new = c.run_each-ended.new.sink in
     let place = hint_place (length c.args.run.cases.now) in
     let all : c.of-listed.result.rest ≡ c.args.run.cases.now = search rules in
     let writer = c.writer-1.given.0 in
@@ -90,7 +90,7 @@ returns-clause-runs g c =
     (c.stopped_by.new.writer ≡ writer) (c.stopped_by.new.faults ≡ faults)
     (watched g.W.Write.contents writer c.stopped_by.new.writer)
     (watched g.F.Write.contents faults c.stopped_by.new.faults)) scored c.stopped_by.ensures.is in
-    run_ended (g.S.CaseServer.meets c.args.server.now c.args.run.rules.key) c.args.run.rules c.args.report.now c.args.run.cases.now c.args.run.tested.now
+    run_ended (g.R.CaseRunner.meets c.args.runner.now c.args.run.rules.key) c.args.run.rules c.args.report.now c.args.run.cases.now c.args.run.tested.now
     _ _ _ c.of-listed.result _ new new.score.now (g.W.Write.contents (inner_of c.args.writer.now))
     (g.W.Write.contents (inner_of writer)) (g.W.Write.contents (inner_of c.stopped_by.new.writer)) (has_failed writer)
     (has_failed c.stopped_by.new.writer) (has_failed faults) (has_failed c.stopped_by.new.faults)
@@ -124,10 +124,10 @@ returns-clause-runs g c =
 
 pub returns-clause-still : goal.returns-clause-still
 returns-clause-still g c =
-    let new = c.run_cases-ended.new.sink in
+    let new = c.run_each-ended.new.sink in
     let noted : c.faults-1.given.0 ≡ new.faults.now = search rules in
     let before = subst (λ f. StaysFailed c.args.faults.now f) (sym noted)
-    (holds_at_the_end (λ (x : Case). x) (g.S.CaseServer.meets c.args.server.now c.args.run.rules.key) GaveOfList
+    (holds_at_the_end (λ (x : Case). x) (g.R.CaseRunner.meets c.args.runner.now c.args.run.rules.key) GaveOfList
     (λ start now cases. GaveAllOfList start cases) _ _ c.of-listed.result _ new (Err c.in-Err.why)
     (StaysFailed c.args.faults.now new.faults.now) (λ came next (kept, same, so, still). still)
     (λ came why (so, still). still) c.in-Err.ensures.runs) in

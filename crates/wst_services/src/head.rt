@@ -4,16 +4,14 @@ ghost use Rattle.std.specs.Prelude.{◌≡◌, false, map};
 ghost use Rattle.ws_frame.specs.Devices.{watched};
 ghost use Rattle.ws_frame.specs.Watching.{has_failed};
 ghost use Rattle.ws_upgrade.specs.Protocols.{AreOffers};
-ghost use Rattle.wst_commands.specs.Head.{AnswersDecision, AnswersHead, AnswersKnowing, RunsHead};
+ghost use Rattle.wst_services.specs.Head.{AnswersDecision, AnswersHead, AnswersKnowing, RunsHead};
 
-use crate::exit::Exit;
-use crate::fault::Fault;
-use crate::telling::deliver;
 use std::alloc::Global;
 use std::io::{Read, Write};
 use ws_connection::{HeadEnd, HeadRoom, RequestDecision, RequestHead, protocols_of, read_head};
 use ws_frame::Watched;
 use ws_upgrade::{Offers, refusal, response_of};
+use wst_commands::{Exit, Fault, deliver};
 use wst_words::HeadOptions;
 
 /// Reads the head of a request, and writes the response or the refusal. What follows the head is ignored. Where the

@@ -2,7 +2,7 @@
 use Rattle.std.proofs.Common.{◌≡◌, ◌∙◌, ap, map, List, ℕ, Bor, Option}
 use Rattle.ws_upgrade.specs.Protocols.{name_chosen}
 use Rattle.ws_upgrade.specs.Texts.{response_text}
-use Rattle.wst_commands.proofs.head.answer.Goals as goal
+use Rattle.wst_services.proofs.head.answer.Goals as goal
 
 pub returns-in_ok-text-in-Accepted : goal.returns-in_ok-text-in-Accepted
 returns-in_ok-text-in-Accepted g c =
