@@ -1,10 +1,9 @@
 //! Rows of a server's opening handshake as a machine: the head of a request, and the answer to it.
 
-use crate::machine_words::{put_unread, tell_words};
+use crate::machine_words::{play, put_unread};
 use std::alloc::Global;
 use test_row_frames::{RowFault, put, put_hex, put_shown};
 use ws_handshake::{Admission, AdmitMachine};
-use ws_machines::Machine;
 use ws_upgrade::are_offers;
 
 /// `admit KNOWN WORD ..`: a server that knows the subprotocols of this list, joined by commas, or none, `-`, reads a
@@ -19,9 +18,9 @@ pub fn tell_admission(alloc: Global, words: &[&str], out: &mut String) -> Result
     if !are_offers(names.as_slice()) {
         return Err(RowFault::NotARow);
     }
-    let mut machine = AdmitMachine::new(alloc, names.as_slice());
-    let unread = tell_words(alloc, &mut machine, words, out)?;
-    put_admission(machine, out)?;
+    let machine = AdmitMachine::new(alloc, names.as_slice());
+    let (end, unread) = play(alloc, machine, words, out)?;
+    put_admission(end, out)?;
     put_unread(out, unread)
 }
 
@@ -35,16 +34,14 @@ fn names_of<'a>(alloc: Global, list: &'a str) -> Result<Vec<&'a [u8]>, RowFault>
 }
 
 /// What came of it, where it is done.
-fn put_admission(machine: AdmitMachine<'_>, out: &mut String) -> Result<(), RowFault> {
-    if !machine.is_done() {
-        return put(out, "goes on");
-    }
-    match machine.into_end()? {
-        Admission::Accepted(request) => {
+fn put_admission(end: Option<Admission>, out: &mut String) -> Result<(), RowFault> {
+    match end {
+        Some(Admission::Accepted(request)) => {
             put_hex(out, "accepted ", request.path.as_slice())?;
             put_hex(out, " ", request.behind.as_slice())
         }
-        Admission::Refused(fault) => put_shown(out, "refused ", &fault),
-        Admission::Lost => put(out, "lost"),
+        Some(Admission::Refused(fault)) => put_shown(out, "refused ", &fault),
+        Some(Admission::Lost) => put(out, "lost"),
+        None => put(out, "goes on"),
     }
 }

@@ -1,10 +1,9 @@
 //! Rows of an echo as a machine: bytes of a session come, and its replies are written.
 
-use crate::machine_words::{put_unread, tell_words};
+use crate::machine_words::{play, put_unread};
 use std::alloc::Global;
 use test_row_frames::{RowFault, bytes_of, number_of, put, put_shown, role_of};
 use ws_echo::{EchoEnd, EchoMachine, EchoPlan, EchoStop};
-use ws_machines::Machine;
 use ws_session::Limits;
 
 /// The key under which a client answers.
@@ -25,9 +24,9 @@ pub fn tell_echo(alloc: Global, words: &[&str], out: &mut String) -> Result<(), 
         budget: number_of(budget)?,
     };
     let first = bytes_of(alloc, first)?;
-    let mut machine = EchoMachine::new(alloc, plan, first.as_slice())?;
-    let unread = tell_words(alloc, &mut machine, words, out)?;
-    put_echo(machine, out)?;
+    let machine = EchoMachine::new(alloc, plan, first.as_slice())?;
+    let (end, unread) = play(alloc, machine, words, out)?;
+    put_echo(end, out)?;
     put_unread(out, unread)
 }
 
@@ -43,16 +42,14 @@ fn limits_of(word: &str) -> Result<Limits, RowFault> {
 }
 
 /// How it has ended, where it is done.
-fn put_echo(machine: EchoMachine, out: &mut String) -> Result<(), RowFault> {
-    if !machine.is_done() {
-        return put(out, "goes on");
-    }
-    match machine.into_end()? {
-        EchoEnd::Done(status) => put_shown(out, "done ", &status),
-        EchoEnd::Budget => put(out, "budget"),
-        EchoEnd::Stopped(EchoStop::ReadFault) => put(out, "stopped read fault"),
-        EchoEnd::Stopped(EchoStop::NothingCame) => put(out, "stopped nothing came"),
-        EchoEnd::Stopped(EchoStop::WriteFault) => put(out, "stopped write fault"),
-        EchoEnd::Stopped(EchoStop::Late) => put(out, "stopped late"),
+fn put_echo(end: Option<EchoEnd>, out: &mut String) -> Result<(), RowFault> {
+    match end {
+        Some(EchoEnd::Done(status)) => put_shown(out, "done ", &status),
+        Some(EchoEnd::Budget) => put(out, "budget"),
+        Some(EchoEnd::Stopped(EchoStop::ReadFault)) => put(out, "stopped read fault"),
+        Some(EchoEnd::Stopped(EchoStop::NothingCame)) => put(out, "stopped nothing came"),
+        Some(EchoEnd::Stopped(EchoStop::WriteFault)) => put(out, "stopped write fault"),
+        Some(EchoEnd::Stopped(EchoStop::Late)) => put(out, "stopped late"),
+        None => put(out, "goes on"),
     }
 }

@@ -28,8 +28,8 @@ pub fn run_tester(alloc: Global, words: &[&str], out: &mut String) -> Result<(),
         expected: expectation_of(expected)?,
         has_timeouts: true,
     };
-    let tester = tester_of(alloc, plan, text, first, number_of(budget)?)?;
     let mut stream = MachineStream::of(alloc, take, fail, words)?;
+    let tester = tester_of(alloc, plan, text, first, number_of(budget)?)?;
     let transcript = run(tester, &mut stream)?;
     put_stream(&stream, out)?;
     put(out, ", ")?;

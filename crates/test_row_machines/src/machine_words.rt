@@ -14,8 +14,30 @@ const MOST_WRITES: usize = 100_000;
 /// bytes were taken that are wanted one after the other, at most so many a time; `ended`, `read_failed`,
 /// `nothing_came`, `write_failed`, `direction_ended`, `deadline` and `deadline_waited`. Or a word asks, `?`, what is
 /// wanted: `write HEX room N`, and `end`; or `done`; or, `limit`, if a time limit of what is waited for begins anew:
-/// `anew` or `kept`. Answers how many bytes weren't read.
-pub fn tell_words<M: Machine>(
+/// `anew` or `kept`. Answers what came of it, where it is done, and how many bytes weren't read.
+pub fn play<M: Machine + Drop>(
+    alloc: Global,
+    machine: M,
+    words: &[&str],
+    out: &mut String,
+) -> Result<(Option<M::End>, usize), RowFault> {
+    let mut machine = machine;
+    let unread = tell_words(alloc, &mut machine, words, out)?;
+    let end = end_of(machine)?;
+    Ok((end, unread))
+}
+
+/// What came of a machine, where it is done.
+fn end_of<M: Machine + Drop>(machine: M) -> Result<Option<M::End>, RowFault> {
+    if !machine.is_done() {
+        return Ok(None);
+    }
+    let end = machine.into_end()?;
+    Ok(Some(end))
+}
+
+/// Tells a machine what the words say. Answers how many bytes weren't read.
+fn tell_words<M: Machine>(
     alloc: Global,
     machine: &mut M,
     words: &[&str],

@@ -1,12 +1,11 @@
 //! Rows of a probe as a machine: its request, the head of the answer, and the script behind it.
 
-use crate::machine_words::{put_unread, tell_words};
+use crate::machine_words::{play, put_unread};
 use crate::testers::put_transcript;
 use std::alloc::Global;
 use test_row_frames::{RowFault, bytes_of, number_of, put, put_number, put_shown};
 use ws_base::Sequence;
 use ws_handshake::{Probe, ProbeMachine, ProbePlan, ResponseHead};
-use ws_machines::Machine;
 use ws_suite::{CutTurn, Expectation, read_script, turns_with};
 use ws_tester::TestPlan;
 use ws_upgrade::HeadFault;
@@ -24,14 +23,14 @@ pub fn tell_probe(alloc: Global, words: &[&str], out: &mut String) -> Result<(),
     let [budget, text, request, words @ ..] = words else {
         return Err(RowFault::NotARow);
     };
-    let mut machine = ProbeMachine::new(
+    let machine = ProbeMachine::new(
         alloc,
         plan_of(number_of(budget)?),
         script_of(alloc, text)?,
         bytes_of(alloc, request)?.into_vec(),
     );
-    let unread = tell_words(alloc, &mut machine, words, out)?;
-    put_probe(machine, out)?;
+    let (end, unread) = play(alloc, machine, words, out)?;
+    put_probe(end, out)?;
     put_unread(out, unread)
 }
 
@@ -62,14 +61,12 @@ fn script_of(alloc: Global, text: &str) -> Result<Sequence<CutTurn>, RowFault> {
 }
 
 /// What came of it, where it is done.
-fn put_probe(machine: ProbeMachine<'_>, out: &mut String) -> Result<(), RowFault> {
-    if !machine.is_done() {
-        return put(out, "goes on");
-    }
-    match machine.into_end()? {
-        Probe::NoConnection => put(out, "no connection"),
-        Probe::Refused(refusal) => put_refusal(out, refusal.fault, refusal.status),
-        Probe::Ran(transcript) => put_transcript(&transcript, out),
+fn put_probe(end: Option<Probe>, out: &mut String) -> Result<(), RowFault> {
+    match end {
+        Some(Probe::NoConnection) => put(out, "no connection"),
+        Some(Probe::Refused(refusal)) => put_refusal(out, refusal.fault, refusal.status),
+        Some(Probe::Ran(transcript)) => put_transcript(&transcript, out),
+        None => put(out, "goes on"),
     }
 }
 

@@ -5,11 +5,10 @@ ghost use Rattle.ws_machines.specs.Machines.{HasNext};
 ghost use Rattle.ws_tester.specs.Following.{WasTold};
 ghost use Rattle.ws_tester.specs.RunStates.{wanted_in};
 
-use crate::machine_words::{put_unread, tell_words};
+use crate::machine_words::{play, put_unread};
 use std::alloc::Global;
 use test_row_frames::{RowFault, bytes_of, expectation_of, number_of, put, put_hex, role_of};
 use ws_base::Sequence;
-use ws_machines::Machine;
 use ws_suite::{CutTurn, Ended, Transcript, read_script, turns_with};
 use ws_tester::{TestPlan, Tester};
 use ws_wire::Role;
@@ -28,9 +27,9 @@ pub fn tell_tester(alloc: Global, words: &[&str], out: &mut String) -> Result<()
         expected: expectation_of(expected)?,
         has_timeouts: can_wait_in_vain(waits)?,
     };
-    let mut tester = tester_of(alloc, plan, text, first, number_of(budget)?)?;
-    let unread = tell_words(alloc, &mut tester, words, out)?;
-    put_record(tester, out)?;
+    let tester = tester_of(alloc, plan, text, first, number_of(budget)?)?;
+    let (end, unread) = play(alloc, tester, words, out)?;
+    put_record(end, out)?;
     put_unread(out, unread)
 }
 
@@ -57,8 +56,8 @@ pub fn tester_of(
     let Ok(case) = read_script(alloc, text.as_slice()) else {
         return Err(RowFault::NotARow);
     };
-    let turns: Sequence<CutTurn> = turns_with(alloc, &case, key_for(plan.tested))?;
     let first = bytes_of(alloc, first)?.into_vec();
+    let turns: Sequence<CutTurn> = turns_with(alloc, &case, key_for(plan.tested))?;
     let tester = Tester::new(alloc, plan, turns, first, budget)?;
     Ok(tester)
 }
@@ -72,12 +71,11 @@ fn key_for(tested: Role) -> Option<[u8; 4]> {
 }
 
 /// What is recorded, where it is done.
-fn put_record(tester: Tester, out: &mut String) -> Result<(), RowFault> {
-    if !tester.is_done() {
-        return put(out, "goes on");
+fn put_record(end: Option<Transcript>, out: &mut String) -> Result<(), RowFault> {
+    match end {
+        Some(transcript) => put_transcript(&transcript, out),
+        None => put(out, "goes on"),
     }
-    let transcript = tester.into_end()?;
-    put_transcript(&transcript, out)
 }
 
 /// How a run ended, and the bytes of each turn.
