@@ -86,9 +86,10 @@ def planted_rows_fail(clone):
 def what_it_can_not_play_is_told(clone):
     rows = RIGHT + 'row: a device\nwords: show\nstdin: "/"\n\nrow: a word\nwords: show "a\\nb"\n'
     rows += 'row: one\nwords: show "\\xff"\n\nrow: large\nwords: show\noutput: 1048577*2a\n'
+    rows += "\nrow: long\nwords: show\ninput: 4194305*2a\n"
     left, last, status, out = counts(clone, rows)
-    told = "left out: 1 rows of a large output, 2 rows of words that no line holds, 1 rows over devices"
-    assert (left, last, status) == (told, "tried: 1 passed, 0 failed", 0), out
+    told = "left out: 1 rows of a large input, 1 rows of a large output, 2 rows of words that no line holds"
+    assert (left, last, status) == (f"{told}, 1 rows over devices", "tried: 1 passed, 0 failed", 0), out
 
 
 def quick_tells_what_it_left_out(clone):

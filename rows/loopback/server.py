@@ -75,7 +75,7 @@ class Tested(Running):
 
     command = "test"
 
-    def __init__(self, *words, host="127.0.0.1", backlog=16, waiting=0):
+    def __init__(self, *words, host="127.0.0.1", backlog=16, waiting=0, before=None):
         self.listener = socket.create_server(("127.0.0.1", 0), backlog=backlog)
         self.waiting = [socket.socket() for _ in range(waiting)]
         for client in self.waiting:
@@ -85,7 +85,7 @@ class Tested(Running):
         self.address = f"{host}:{self.listener.getsockname()[1]}"
         options = [word for word in words if word.startswith("-")]
         cases = [word for word in words if not word.startswith("-")]
-        self.process = start(self.command, *options, self.address, *cases)
+        self.process = start(self.command, *options, self.address, *cases, before=before)
 
     def next(self):
         """The server's end of the next connection."""

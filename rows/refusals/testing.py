@@ -10,11 +10,17 @@ from shim import Ended, refusing
 
 SECONDS = 20
 
-# The words of a run, the server at ADDRESS, what it reads, and what it writes: a case, and the same as a script.
+# The words of a run, the server at ADDRESS, what it reads, and what it writes: a case, the same three times, two at a
+# time, and the same as a script.
 TEST = (
     ["test", "ADDRESS", "1.1.1"],
     b"",
     b"1.1.1 PASS\n1 pass, 0 loose, 0 fail\n",
+)
+AT_ONCE = (
+    ["test", "--at-once", "2", "ADDRESS", *["1.1.1"] * 3],
+    b"",
+    b"1.1.1 PASS\n" * 3 + b"3 pass, 0 loose, 0 fail\n",
 )
 SEND = (
     ["send", "ADDRESS"],
@@ -52,14 +58,23 @@ class AtServer:
 
 
 def answer(listener, address):
-    """Serves one connection, as long as what comes is what the case sends."""
+    """Serves one connection after the other, as long as what comes is what the case sends."""
     turns = [(request_to(address), RESPONSE), (EMPTY_TEXT, EMPTY_BACK), (MASKED_CLOSE, CLOSE_BACK)]
     try:
-        client = Client(listener.accept()[0])
+        while True:
+            serve(Client(listener.accept()[0]), turns)
+    except OSError:
+        pass
+
+
+def serve(client, turns):
+    """The end of its stream comes behind that of the tester's, in each run, so that each makes the same requests."""
+    try:
         with client.stream:
             for sent, back in turns:
                 if client.get(len(sent)) != sent:
                     return
                 client.send(back)
+            client.rest()
     except OSError:
         pass
