@@ -20,7 +20,7 @@ impl Room {
     /// Puts a number behind what stands in the room, in decimal digits.
     #[inline(always)]
     pub(crate) fn push_decimal(&mut self, number: u64)
-        requires { length self.old + 20 ≤ 8192 }
+        requires { length self.old + 20 ≤ 2048 }
         ensures pushed { self.new ≡ self.old ++ decimal number }
         ensures len { length self.new ≤ length self.old + 20 }
     {
@@ -34,7 +34,7 @@ impl Room {
     /// The same of a number that is seldom small: the way of a large one is made a part of the caller too.
     #[inline(always)]
     pub(crate) fn push_large(&mut self, number: u64)
-        requires { length self.old + 20 ≤ 8192 }
+        requires { length self.old + 20 ≤ 2048 }
         ensures pushed { self.new ≡ self.old ++ decimal number }
         ensures len { length self.new ≤ length self.old + 20 }
     {
@@ -49,7 +49,7 @@ impl Room {
     #[inline(always)]
     fn push_1_to_4(&mut self, number: u64)
         requires few { number < 10000 }
-        requires room { length self.old + 4 ≤ 8192 }
+        requires room { length self.old + 4 ≤ 2048 }
         ensures pushed { self.new ≡ self.old ++ decimal number }
         ensures len { length self.new ≤ length self.old + 4 }
     {
@@ -65,7 +65,7 @@ impl Room {
     fn push_3_to_4(&mut self, number: u64)
         requires hundreds { 100 ≤ number }
         requires few { number < 10000 }
-        requires room { length self.old + 4 ≤ 8192 }
+        requires room { length self.old + 4 ≤ 2048 }
         ensures pushed { self.new ≡ self.old ++ decimal number }
         ensures len { length self.new ≤ length self.old + 4 }
     {
@@ -77,7 +77,7 @@ impl Room {
     #[inline(always)]
     fn push_1_to_2(&mut self, number: u64)
         requires few { number < 100 }
-        requires room { length self.old + 2 ≤ 8192 }
+        requires room { length self.old + 2 ≤ 2048 }
         ensures pushed { self.new ≡ self.old ++ decimal number }
         ensures len { length self.new ≤ length self.old + 2 }
     {
@@ -92,7 +92,7 @@ impl Room {
     #[inline(never)]
     fn push_5_to_20_apart(&mut self, number: u64)
         requires many { 10000 ≤ number }
-        requires room { length self.old + 20 ≤ 8192 }
+        requires room { length self.old + 20 ≤ 2048 }
         ensures pushed { self.new ≡ self.old ++ decimal number }
         ensures len { length self.new ≤ length self.old + 20 }
     {
@@ -103,7 +103,7 @@ impl Room {
     #[inline(always)]
     fn push_5_to_20(&mut self, number: u64)
         requires many { 10000 ≤ number }
-        requires room { length self.old + 20 ≤ 8192 }
+        requires room { length self.old + 20 ≤ 2048 }
         ensures pushed { self.new ≡ self.old ++ decimal number }
         ensures len { length self.new ≤ length self.old + 20 }
     {
@@ -121,7 +121,7 @@ impl Room {
     fn push_5_to_8(&mut self, number: u64)
         requires many { 10000 ≤ number }
         requires few { number < 100000000 }
-        requires room { length self.old + 8 ≤ 8192 }
+        requires room { length self.old + 8 ≤ 2048 }
         ensures pushed { self.new ≡ self.old ++ decimal number }
         ensures len { length self.new ≤ length self.old + 8 }
     {
@@ -134,7 +134,7 @@ impl Room {
     fn push_9_to_12(&mut self, number: u64)
         requires many { 100000000 ≤ number }
         requires few { number < 1000000000000 }
-        requires room { length self.old + 12 ≤ 8192 }
+        requires room { length self.old + 12 ≤ 2048 }
         ensures pushed { self.new ≡ self.old ++ decimal number }
         ensures len { length self.new ≤ length self.old + 12 }
     {
@@ -145,7 +145,7 @@ impl Room {
     /// The same of any number.
     #[inline(never)]
     fn push_1_to_20(&mut self, number: u64)
-        requires { length self.old + 20 ≤ 8192 }
+        requires { length self.old + 20 ≤ 2048 }
         ensures pushed { self.new ≡ self.old ++ decimal number }
         ensures len { length self.new ≤ length self.old + 20 }
     {
@@ -158,7 +158,7 @@ impl Room {
     #[inline(always)]
     fn push_all_4(&mut self, number: u64)
         requires few { number < 10000 }
-        requires room { length self.old + 4 ≤ 8192 }
+        requires room { length self.old + 4 ≤ 2048 }
         ensures pushed { self.new ≡ self.old ++ four_digits number }
         ensures len { length self.new ≡ length self.old + 4 }
     {
@@ -170,7 +170,7 @@ impl Room {
     #[inline(always)]
     fn push_all_2(&mut self, number: u64)
         requires few { number < 100 }
-        requires room { length self.old + 2 ≤ 8192 }
+        requires room { length self.old + 2 ≤ 2048 }
         ensures pushed { self.new ≡ self.old ++ pair_digits number }
         ensures len { length self.new ≡ length self.old + 2 }
     {

@@ -45,7 +45,7 @@ pub(crate) fn push_line(
     header: &Header,
     first: &FirstBytes,
 )
-    requires room { length room.old + 200 ≤ 8192 }
+    requires room { length room.old + 200 ≤ 2048 }
     ensures pushed { room.new ≡ room.old ++ line_with source offset header.now (data_word header.now.len first.now) }
     ensures len { length room.new ≤ length room.old + 200 }
 {
@@ -58,7 +58,7 @@ pub(crate) fn push_line(
 
 /// Puts what stands before a payload that is put elsewhere: the mark, where the frame begins, and its header.
 pub(crate) fn push_front(room: &mut Room, mark: Mark, offset: u64, header: &Header)
-    requires room { length room.old + 148 ≤ 8192 }
+    requires room { length room.old + 148 ≤ 2048 }
     ensures pushed { room.new ≡ room.old ++ front_words mark offset header.now }
     ensures len { length room.new ≤ length room.old + 148 }
 {
@@ -69,7 +69,7 @@ pub(crate) fn push_front(room: &mut Room, mark: Mark, offset: u64, header: &Head
 
 /// Puts what stands behind it: the remarks, and the end of the line.
 pub(crate) fn push_end(room: &mut Room, source: Source, offset: u64, header: &Header)
-    requires { length room.old + 20 ≤ 8192 }
+    requires { length room.old + 20 ≤ 2048 }
     ensures pushed { room.new ≡ room.old ++ end_words source offset header.now }
     ensures len { length room.new ≤ length room.old + 20 }
 {
@@ -78,7 +78,7 @@ pub(crate) fn push_end(room: &mut Room, source: Source, offset: u64, header: &He
 
 /// Puts where a frame begins, and what its first byte says.
 fn push_place<const WAY: usize>(room: &mut Room, offset: u64, header: &Header)
-    requires { length room.old + 60 ≤ 8192 }
+    requires { length room.old + 60 ≤ 2048 }
     ensures pushed { room.new ≡ room.old ++ place_words offset header.now }
     ensures len { length room.new ≤ length room.old + 60 }
 {
@@ -91,7 +91,7 @@ fn push_place<const WAY: usize>(room: &mut Room, offset: u64, header: &Header)
 /// Puts FIN and the reserved bits, and the word before the key, in one copy.
 fn push_bits(room: &mut Room, fin: bool, rsv: u8)
     requires bits { rsv < 8 }
-    requires room { length room.old + 17 ≤ 8192 }
+    requires room { length room.old + 17 ≤ 2048 }
     ensures pushed { room.new ≡ room.old ++ bits_words fin rsv }
     ensures len { length room.new ≡ length room.old + 17 }
 {
@@ -105,7 +105,7 @@ fn push_bits(room: &mut Room, fin: bool, rsv: u8)
 
 /// Puts the masking key, and the payload length with its form.
 fn push_layout<const WAY: usize>(room: &mut Room, header: &Header)
-    requires { length room.old + 45 ≤ 8192 }
+    requires { length room.old + 45 ≤ 2048 }
     ensures pushed { room.new ≡ room.old ++ layout_words header.now }
     ensures len { length room.new ≤ length room.old + 45 }
 {
@@ -127,7 +127,7 @@ fn push_layout<const WAY: usize>(room: &mut Room, header: &Header)
 /// Puts the name of an opcode.
 fn push_kind(room: &mut Room, opcode: u8)
     requires known { opcode < 16 }
-    requires room { length room.old + 22 ≤ 8192 }
+    requires room { length room.old + 22 ≤ 2048 }
     ensures pushed { room.new ≡ room.old ++ opcode_word opcode }
     ensures len { length room.new ≤ length room.old + 22 }
 {
@@ -139,7 +139,7 @@ fn push_kind(room: &mut Room, opcode: u8)
 
 /// Puts a masking key in hexadecimal, or a dash.
 fn push_key(room: &mut Room, key: Option<[u8; 4]>)
-    requires { length room.old + 8 ≤ 8192 }
+    requires { length room.old + 8 ≤ 2048 }
     ensures pushed { room.new ≡ room.old ++ key_word key }
     ensures len { length room.new ≤ length room.old + 8 }
 {
@@ -151,7 +151,7 @@ fn push_key(room: &mut Room, key: Option<[u8; 4]>)
 
 /// Puts the first bytes of a payload of some length.
 fn push_data(room: &mut Room, len: u64, first: &FirstBytes)
-    requires room { length room.old + 34 ≤ 8192 }
+    requires room { length room.old + 34 ≤ 2048 }
     ensures pushed { room.new ≡ room.old ++ data_word len first.now }
     ensures len { length room.new ≤ length room.old + 34 }
 {
@@ -168,7 +168,7 @@ fn push_data(room: &mut Room, len: u64, first: &FirstBytes)
 /// Puts what the line adds where the frame is masked and should not be, or the other way round, where the header's form
 /// is longer than needed, and where the payload is the stream's first violation, and ends it.
 fn push_marks<const WAY: usize>(room: &mut Room, source: Source, offset: u64, header: &Header)
-    requires { length room.old + 20 ≤ 8192 }
+    requires { length room.old + 20 ≤ 2048 }
     ensures pushed { room.new ≡ room.old ++ end_words source offset header.now }
     ensures len { length room.new ≤ length room.old + 20 }
 {
@@ -189,7 +189,7 @@ fn push_marks<const WAY: usize>(room: &mut Room, source: Source, offset: u64, he
 /// stands apart, so that a stream without a fault doesn't pay for it.
 #[inline(never)]
 fn push_fault(room: &mut Room, place: u64, offset: u64, opcode: u8)
-    requires { length room.old + 7 ≤ 8192 }
+    requires { length room.old + 7 ≤ 2048 }
     ensures pushed { room.new ≡ room.old ++ fault_mark (Some place) offset opcode }
     ensures len { length room.new ≤ length room.old + 7 }
 {

@@ -9,7 +9,7 @@ use std::simd::u8x16;
 use ws_formats::digits_of;
 
 /// How many bytes a room holds. It stands in what is moved and on the stack: no larger than writing needs.
-pub(crate) const ROOM: usize = 8192;
+pub(crate) const ROOM: usize = 2048;
 
 /// The digits of a masking key.
 const KEY_DIGITS: usize = 8;
@@ -28,7 +28,7 @@ impl Model for Room {
 
     ghost view = { λ room. take room.len room.bytes };
 
-    ghost invariant = { λ room. room.len ≤ 8192 };
+    ghost invariant = { λ room. room.len ≤ 2048 };
 }
 
 impl Room {
@@ -45,7 +45,7 @@ impl Room {
     /// How many bytes stand in it.
     pub(crate) fn len(&self) -> usize
         ensures count { result ≡ length self.now }
-        ensures bound { result ≤ 8192 }
+        ensures bound { result ≤ 2048 }
     {
         self.len
     }
@@ -67,7 +67,7 @@ impl Room {
     /// Puts bytes behind those that stand in it. It is made a part of its callers, where the size of a word is known.
     #[inline(always)]
     pub(crate) fn push(&mut self, bytes: &[u8])
-        requires { length self.old + length bytes.now ≤ 8192 }
+        requires { length self.old + length bytes.now ≤ 2048 }
         ensures pushed { self.new ≡ self.old ++ bytes.now }
         ensures len { length self.new ≡ length self.old + length bytes.now }
     {
@@ -81,7 +81,7 @@ impl Room {
     #[inline(always)]
     pub(crate) fn push_front(&mut self, block: &[u8], len: usize)
         requires front { len ≤ length block.now }
-        requires room { length self.old + length block.now ≤ 8192 }
+        requires room { length self.old + length block.now ≤ 2048 }
         ensures pushed { self.new ≡ self.old ++ take len block.now }
         ensures len { length self.new ≡ length self.old + len }
     {
@@ -95,7 +95,7 @@ impl Room {
     pub(crate) fn push_hex(&mut self, bytes: u8x16, count: usize)
         requires whole { length bytes ≡ 16 }
         requires few { count ≤ 16 }
-        requires room { length self.old + 32 ≤ 8192 }
+        requires room { length self.old + 32 ≤ 2048 }
         ensures pushed { self.new ≡ self.old ++ hex (take count bytes) }
         ensures len { length self.new ≡ length self.old + 2 * count }
     {
@@ -106,7 +106,7 @@ impl Room {
     /// Puts the digits of a masking key behind them, two a byte.
     #[inline(always)]
     pub(crate) fn push_key(&mut self, key: [u8; 4])
-        requires { length self.old + 8 ≤ 8192 }
+        requires { length self.old + 8 ≤ 2048 }
         ensures pushed { self.new ≡ self.old ++ hex key }
         ensures len { length self.new ≡ length self.old + 8 }
     {

@@ -25,7 +25,7 @@ impl Mark {
     /// Puts the mark behind what stands in the room. A stream that is shown alone has none.
     #[inline(always)]
     pub(crate) fn push_to(self, room: &mut Room)
-        requires { length room.old + 23 ≤ 8192 }
+        requires { length room.old + 23 ≤ 2048 }
         ensures pushed { room.new ≡ room.old ++ mark_word self }
         ensures len { length room.new ≤ length room.old + 23 }
     {
@@ -37,7 +37,7 @@ impl Mark {
 
     /// The same of any mark. It stands apart, so that a stream that is shown alone doesn't pay for it.
     fn push_word_to(self, room: &mut Room)
-        requires { length room.old + 23 ≤ 8192 }
+        requires { length room.old + 23 ≤ 2048 }
         ensures pushed { room.new ≡ room.old ++ mark_word self }
         ensures len { length room.new ≤ length room.old + 23 }
     {

@@ -42,7 +42,7 @@ pub(crate) fn put_line<W: Write>(
 fn make_room<W: Write>(lines: &mut Room, writer: &mut Watched<W>) -> Result<(), WriteFault>
     requires { has_failed writer.old ≡ false }
     ensures written { WritesSome lines.old lines.new (watched W.contents writer.old writer.new) result }
-    ensures room { OnOk result (length lines.new + 200 ≤ 8192) }
+    ensures room { OnOk result (length lines.new + 200 ≤ 2048) }
 {
     if ROOM - lines.len() < MAX_LINE {
         return flush(lines, writer);
