@@ -4,6 +4,7 @@ pub mod Protocols
 pub mod AddedHeaders
 pub mod Heads
 pub mod Reading
+pub mod Openings
 pub mod Texts
 pub mod Words
 pub mod Examples

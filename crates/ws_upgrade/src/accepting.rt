@@ -51,7 +51,7 @@ pub(crate) fn is_key(key: &[u8]) -> bool
 }
 
 /// The 16 bytes whose base64 a key is. `None` where it is not that of 16 bytes.
-fn nonce_of(key: &[u8]) -> Option<[u8; 16]>
+pub(crate) fn nonce_of(key: &[u8]) -> Option<[u8; 16]>
     ensures found { IfSome result (λ nonce. IsBytes nonce × (length nonce ≡ 16) × (key.now ≡ key_of nonce)) }
     ensures none { IsNone result → ¬ (IsHandshakeKey key.now) }
 {
