@@ -41,6 +41,7 @@ mod ValidEvidence
 mod AppPasses
 mod OneVerdictBy
 mod WorkedProtocol
+mod WorkedTapped
 mod KeptLemmas
 mod ChosenLemmas
 mod AnsweredLemmas

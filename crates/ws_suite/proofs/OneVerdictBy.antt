@@ -18,7 +18,8 @@ use Rattle.ws_suite.specs.declared.evidence.marks.Marks.{Marks}
 use Rattle.ws_suite.specs.Evidence.{got_turns, other_role}
 use Rattle.ws_suite.specs.Doom.{HasDoomCounted}
 use Rattle.ws_suite.specs.Marks.{AreMarksOf, CountsUndefinedCode, HasPongsCounted, HasUndefinedCodeCounted}
-use Rattle.ws_suite.specs.Protocol.{FailsProtocol, IsLooseByProtocol, IsProtocolVerdictOf, IsProtocolVerdictOn, IsVerdictBy}
+use Rattle.ws_suite.specs.Protocol.{FailsProtocol, IsLooseByProtocol, IsMarkedEvidenceOf, IsProtocolVerdictOf, IsProtocolVerdictOn, IsVerdictBy}
+use Rattle.ws_suite.specs.Tapped.{FailsTapped, IsLooseTapped, IsTappedVerdictOf, IsTappedVerdictOn}
 use Rattle.ws_suite.specs.Verdicts.{fail_number, loose_number}
 use Rattle.ws_suite.specs.InnerCollecting.{EventLaws}
 use Rattle.ws_suite.proofs.OneFault.{one_undefined_code}
@@ -68,40 +69,66 @@ one_marks tested transcript a b p q =
 
 -- ---- one verdict
 
-one_fail : (tested : Role) (x : Evidence) (marks : Marks) (a b : FailWhy) → IsLowest FailWhy fail_number (FailsProtocol tested x marks) a → IsLowest FailWhy fail_number (FailsProtocol tested x marks) b → a ≡ b
-one_fail tested x marks a b p q =
+one_fail : (F : FailWhy → Type 0) (a b : FailWhy) → IsLowest FailWhy fail_number F a → IsLowest FailWhy fail_number F b → a ≡ b
+one_fail F a b p q =
     let same : fail_number a ≡ fail_number b = omega (arith, p.first b q.wrong, q.first a p.wrong) in
     sym (fail_is a) ∙ (ap fail_with same ∙ fail_is b)
 
-one_loose : (tested : Role) (x : Evidence) (marks : Marks) (a b : LooseWhy) → IsLowest LooseWhy loose_number (IsLooseByProtocol tested x marks) a
-    → IsLowest LooseWhy loose_number (IsLooseByProtocol tested x marks) b → a ≡ b
-one_loose tested x marks a b p q =
+one_loose : (L : LooseWhy → Type 0) (a b : LooseWhy) → IsLowest LooseWhy loose_number L a → IsLowest LooseWhy loose_number L b → a ≡ b
+one_loose L a b p q =
     let same : loose_number a ≡ loose_number b = omega (arith, p.first b q.wrong, q.first a p.wrong) in
     sym (loose_is a) ∙ (ap loose_with same ∙ loose_is b)
 
-one_on : (tested : Role) (x : Evidence) (marks : Marks) (one other : Verdict) → IsProtocolVerdictOn tested x marks one → IsProtocolVerdictOn tested x marks other → one ≡ other
-one_on tested x marks (Fail a) (Fail b) p q = ap Fail (one_fail tested x marks a b p q)
-one_on tested x marks (Fail a) (Loose b) p q = absurd (q.0 a p.wrong)
-one_on tested x marks (Fail a) Pass p q = absurd (q.0 a p.wrong)
-one_on tested x marks (Loose a) (Fail b) p q = absurd (p.0 b q.wrong)
-one_on tested x marks (Loose a) (Loose b) p q = ap Loose (one_loose tested x marks a b p.1 q.1)
-one_on tested x marks (Loose a) Pass p q = absurd (q.1 a p.1.wrong)
-one_on tested x marks Pass (Fail b) p q = absurd (p.0 b q.wrong)
-one_on tested x marks Pass (Loose b) p q = absurd (p.1 b q.1.wrong)
-one_on tested x marks Pass Pass p q = refl
+-- the lowest Fail, else the lowest Loose, else Pass
+abbrev IsVerdictOver : (FailWhy → Type 0) → (LooseWhy → Type 0) → Verdict → Type 0
+IsVerdictOver F L (Fail why) = IsLowest FailWhy fail_number F why
+IsVerdictOver F L (Loose why) = ((other : FailWhy) → ¬ (F other)) × IsLowest LooseWhy loose_number L why
+IsVerdictOver F L Pass = ((other : FailWhy) → ¬ (F other)) × ((other : LooseWhy) → ¬ (L other))
+
+one_over : (F : FailWhy → Type 0) (L : LooseWhy → Type 0) (one other : Verdict) → IsVerdictOver F L one → IsVerdictOver F L other → one ≡ other
+one_over F L (Fail a) (Fail b) p q = ap Fail (one_fail F a b p q)
+one_over F L (Fail a) (Loose b) p q = absurd (q.0 a p.wrong)
+one_over F L (Fail a) Pass p q = absurd (q.0 a p.wrong)
+one_over F L (Loose a) (Fail b) p q = absurd (p.0 b q.wrong)
+one_over F L (Loose a) (Loose b) p q = ap Loose (one_loose L a b p.1 q.1)
+one_over F L (Loose a) Pass p q = absurd (q.1 a p.1.wrong)
+one_over F L Pass (Fail b) p q = absurd (p.0 b q.wrong)
+one_over F L Pass (Loose b) p q = absurd (p.1 b q.1.wrong)
+one_over F L Pass Pass p q = refl
+
+over : (tested : Role) (x : Evidence) (marks : Marks) (verdict : Verdict) → IsProtocolVerdictOn tested x marks verdict → IsVerdictOver (FailsProtocol tested x marks) (IsLooseByProtocol tested x marks) verdict
+over tested x marks (Fail a) p = p
+over tested x marks (Loose a) p = p
+over tested x marks Pass p = p
+
+tapped_over : (tested : Role) (is_first : Bool) (x : Evidence) (marks : Marks) (verdict : Verdict) → IsTappedVerdictOn tested is_first x marks verdict
+    → IsVerdictOver (FailsTapped tested x marks) (IsLooseTapped tested is_first x marks) verdict
+tapped_over tested is_first x marks (Fail a) p = p
+tapped_over tested is_first x marks (Loose a) p = p
+tapped_over tested is_first x marks Pass p = p
+
+-- there is one evidence as it counts, with its marks
+one_marked : EventLaws → (tested : Role) (transcript : Transcript) (x y : Evidence) (m n : Marks) → IsMarkedEvidenceOf tested transcript x m → IsMarkedEvidenceOf tested transcript y n → (y ≡ x) × (n ≡ m)
+one_marked laws tested transcript x y m n p q =
+    let shown = one_evidence laws tested transcript q.shown p.shown q.is_shown p.is_shown in
+    let closed = one_closed tested transcript p.shown q.closed p.closed (subst (λ (e : Evidence). HasUndefinedCodeCounted tested transcript e q.closed) shown q.is_closed) p.is_closed in
+    let doomed = one_counted tested transcript p.closed q.doomed p.doomed (subst (λ (e : Evidence). HasDoomCounted tested transcript e q.doomed) closed q.is_doomed) p.is_doomed in
+    let counted = one_with_pongs laws tested transcript p.doomed y x (subst (λ (e : Evidence). HasPongsCounted tested transcript e y) doomed q.is_counted) p.is_counted in
+    (counted, one_marks tested transcript n m q.are_marks p.are_marks)
 
 pub one_protocol_verdict : EventLaws → (tested : Role) (transcript : Transcript) (one other : Verdict) → IsProtocolVerdictOf tested transcript one → IsProtocolVerdictOf tested transcript other → one ≡ other
 one_protocol_verdict laws tested transcript one other p q =
-    let shown = one_evidence laws tested transcript q.is_evidence.shown p.is_evidence.shown q.is_evidence.is_shown p.is_evidence.is_shown in
-    let closed = one_closed tested transcript p.is_evidence.shown q.is_evidence.closed p.is_evidence.closed
-    (subst (λ (x : Evidence). HasUndefinedCodeCounted tested transcript x q.is_evidence.closed) shown q.is_evidence.is_closed) p.is_evidence.is_closed in
-    let doomed = one_counted tested transcript p.is_evidence.closed q.is_evidence.doomed p.is_evidence.doomed
-    (subst (λ (x : Evidence). HasDoomCounted tested transcript x q.is_evidence.doomed) closed q.is_evidence.is_doomed) p.is_evidence.is_doomed in
-    let counted = one_with_pongs laws tested transcript p.is_evidence.doomed q.counted p.counted
-    (subst (λ (x : Evidence). HasPongsCounted tested transcript x q.counted) doomed q.is_evidence.is_counted) p.is_evidence.is_counted in
-    let marks = one_marks tested transcript q.marks p.marks q.is_evidence.are_marks p.is_evidence.are_marks in
-    one_on tested p.counted p.marks one other p.is_verdict
-    (subst (λ (m : Marks). IsProtocolVerdictOn tested p.counted m other) marks (subst (λ (x : Evidence). IsProtocolVerdictOn tested x q.marks other) counted q.is_verdict))
+    let same = one_marked laws tested transcript p.counted q.counted p.marks q.marks p.is_evidence q.is_evidence in
+    one_over (FailsProtocol tested p.counted p.marks) (IsLooseByProtocol tested p.counted p.marks) one other (over tested p.counted p.marks one p.is_verdict) (over tested p.counted p.marks other
+    (subst (λ (m : Marks). IsProtocolVerdictOn tested p.counted m other) same.1 (subst (λ (x : Evidence). IsProtocolVerdictOn tested x q.marks other) same.0 q.is_verdict)))
+
+-- and of an end that was tapped
+pub one_tapped : EventLaws → (tested : Role) (is_first : Bool) (transcript : Transcript) (one other : Verdict) → IsTappedVerdictOf tested is_first transcript one → IsTappedVerdictOf tested is_first transcript other → one ≡ other
+one_tapped laws tested is_first transcript one other p q =
+    let same = one_marked laws tested transcript p.counted q.counted p.marks q.marks p.is_evidence q.is_evidence in
+    one_over (FailsTapped tested p.counted p.marks) (IsLooseTapped tested is_first p.counted p.marks) one other (tapped_over tested is_first p.counted p.marks one p.is_verdict)
+    (tapped_over tested is_first p.counted p.marks other
+    (subst (λ (m : Marks). IsTappedVerdictOn tested is_first p.counted m other) same.1 (subst (λ (x : Evidence). IsTappedVerdictOn tested is_first x q.marks other) same.0 q.is_verdict)))
 
 -- by whatever is expected
 pub one_verdict_by_all : EventLaws → (expected : Expectation) (tested : Role) (transcript : Transcript) (one other : Verdict) → IsVerdictBy expected tested transcript one

@@ -17,7 +17,7 @@ use Rattle.ws_suite.specs.declared.evidence.Evidence.{Evidence}
 use Rattle.ws_suite.specs.declared.evidence.marks.Marks.{Marks}
 use Rattle.ws_suite.specs.Evidence.{joined_events}
 use Rattle.ws_suite.specs.Examples.{close_got, close_sent, in_one_turn, in_two_turns, ping_sent, policy_got, text_got, text_sent}
-use Rattle.ws_suite.specs.Protocol.{FailsProtocol, HasOwnClose, HasOwnFault, IsLastAnswered, IsLooseByProtocol, IsProtocolVerdictOf}
+use Rattle.ws_suite.specs.Protocol.{FailsProtocol, HasOwnClose, HasOwnFault, IsLastAnswered, IsLooseByProtocol, IsMarkedEvidenceOf, IsProtocolVerdictOf}
 use Rattle.ws_suite.specs.Verdicts.{fail_number, loose_number}
 use Rattle.ws_suite.specs.InnerCollecting.{EventLaws, FrameLaws}
 use Rattle.ws_suite.proofs.MarkLemmas.{marks_of}
@@ -28,18 +28,18 @@ use Rattle.ws_suite.proofs.WorkedFrames.{close, close_back, close_back_fits, clo
 abbrev marks_by : List (List KeyedFrame) → List (List KeyedFrame) → Marks
 marks_by sent got = marks_of false (joined_events (events_by [] sent)) (joined_events (events_by [] got))
 
-no_true : false ≡ true → ⊥
+pub no_true : false ≡ true → ⊥
 no_true e = absurd cc
 
 -- ---- a message for a message
 
-abbrev answered : Ended → Evidence
+abbrev pub answered : Ended → Evidence
 answered end = evidence_of ((text ∷ []) ∷ []) ((text_back ∷ []) ∷ []) (in_one_turn text_sent text_got end)
 
-abbrev answered_marks : Marks
+abbrev pub answered_marks : Marks
 answered_marks = marks_by ((text ∷ []) ∷ []) ((text_back ∷ []) ∷ [])
 
-answered_fails : (end : Ended) (why : FailWhy) → FailsProtocol Server (answered end) answered_marks why → ⊥
+pub answered_fails : (end : Ended) (why : FailWhy) → FailsProtocol Server (answered end) answered_marks why → ⊥
 answered_fails end fail.NotFrames (inl h) = no_true h.0
 answered_fails end fail.NotFrames (inr (inl h)) = no_true h.0
 answered_fails end fail.NotFrames (inr (inr h)) = no_true h.3
@@ -67,7 +67,7 @@ is_of_end loose.NoClose = false
 is_of_end loose.BehindClose = false
 is_of_end loose.TooBig = false
 
-answered_loose : (end : Ended) (why : LooseWhy) → is_of_end why ≡ false → IsLooseByProtocol Server (answered end) answered_marks why → ⊥
+pub answered_loose : (end : Ended) (why : LooseWhy) → is_of_end why ≡ false → IsLooseByProtocol Server (answered end) answered_marks why → ⊥
 answered_loose end loose.PongsSkipped other (inl h) = omega (arith, h.0)
 answered_loose end loose.PongsSkipped other (inr h) = no_true h
 answered_loose end loose.PongElsewhere other h = h
@@ -103,7 +103,7 @@ nothing_loose loose.NoClose h = answered_loose Tester loose.NoClose refl h
 nothing_loose loose.BehindClose h = answered_loose Tester loose.BehindClose refl h
 nothing_loose loose.TooBig h = answered_loose Tester loose.TooBig refl h
 
-own_end_first : (other : LooseWhy) → IsLooseByProtocol Server (answered Peer) answered_marks other → 9 ≤ loose_number other
+pub own_end_first : (other : LooseWhy) → IsLooseByProtocol Server (answered Peer) answered_marks other → 9 ≤ loose_number other
 own_end_first loose.PongsSkipped h = absurd (answered_loose Peer loose.PongsSkipped refl h)
 own_end_first loose.PongElsewhere h = absurd (answered_loose Peer loose.PongElsewhere refl h)
 own_end_first loose.OtherCode h = absurd (answered_loose Peer loose.OtherCode refl h)
@@ -121,13 +121,13 @@ own_end_first loose.TooBig h = lit≤ tt
 
 -- ---- a close of its own
 
-abbrev closing : Evidence
+abbrev pub closing : Evidence
 closing = evidence_of ((text ∷ []) ∷ []) ((text_back ∷ policy_back ∷ []) ∷ []) (in_one_turn text_sent (text_got ++ policy_got) Peer)
 
-abbrev closing_marks : Marks
+abbrev pub closing_marks : Marks
 closing_marks = marks_by ((text ∷ []) ∷ []) ((text_back ∷ policy_back ∷ []) ∷ [])
 
-closing_fails : (why : FailWhy) → FailsProtocol Server closing closing_marks why → ⊥
+pub closing_fails : (why : FailWhy) → FailsProtocol Server closing closing_marks why → ⊥
 closing_fails fail.NotFrames (inl h) = no_true h.0
 closing_fails fail.NotFrames (inr (inl h)) = no_true h.1
 closing_fails fail.NotFrames (inr (inr h)) = no_true h.3
@@ -157,7 +157,7 @@ blames_none (own, (got, code, is, what, wrong), sound) =
     let same : 1008 ≡ code = ap (λ (o : Option (InTurn Ending)). code_of o) is ∙ ap (λ (e : Ending). code_in e) what in
     not_1008 code same wrong
 
-own_close_first : (other : LooseWhy) → IsLooseByProtocol Server closing closing_marks other → 8 ≤ loose_number other
+pub own_close_first : (other : LooseWhy) → IsLooseByProtocol Server closing closing_marks other → 8 ≤ loose_number other
 own_close_first loose.PongsSkipped (inl h) = absurd (omega (arith, h.0))
 own_close_first loose.PongsSkipped (inr h) = absurd (no_true h)
 own_close_first loose.PongElsewhere h = absurd h
@@ -204,13 +204,13 @@ pongs_first fail.End h = lit≤ tt
 
 -- ---- a close without an answer
 
-abbrev closed : Evidence
+abbrev pub closed : Evidence
 closed = evidence_of ((close ∷ []) ∷ []) ([] ∷ []) (in_one_turn close_sent [] Peer)
 
-abbrev closed_marks : Marks
+abbrev pub closed_marks : Marks
 closed_marks = marks_by ((close ∷ []) ∷ []) ([] ∷ [])
 
-close_first : (other : FailWhy) → FailsProtocol Server closed closed_marks other → 5 ≤ fail_number other
+pub close_first : (other : FailWhy) → FailsProtocol Server closed closed_marks other → 5 ≤ fail_number other
 close_first fail.NotFrames (inl h) = absurd (no_true h.0)
 close_first fail.NotFrames (inr (inl h)) = absurd (no_true h.0)
 close_first fail.NotFrames (inr (inr h)) = absurd (no_true h.3)
@@ -252,21 +252,27 @@ module _ (laws : FrameLaws) (events : EventLaws) where
     is_verdict = (answered_fails Tester, nothing_loose);
   }
 
+  pub ended_evidence : IsMarkedEvidenceOf Server (in_one_turn text_sent text_got Peer) (answered Peer) answered_marks
+  ended_evidence = is_marked laws events Server (in_one_turn text_sent text_got Peer) ((text ∷ []) ∷ []) ((text_back ∷ []) ∷ []) text_whole text_back_whole refl refl
+      (none_doomed laws events Server (in_one_turn text_sent text_got Peer) ((text ∷ []) ∷ []) ((text_back ∷ []) ∷ []) text_whole text_back_whole refl refl) (λ d. d)
+
   pub own_end : IsProtocolVerdictOf Server (in_one_turn text_sent text_got Peer) (Loose loose.OwnEnd)
   own_end = record {
     counted = answered Peer;
     marks = answered_marks;
-    is_evidence = is_marked laws events Server (in_one_turn text_sent text_got Peer) ((text ∷ []) ∷ []) ((text_back ∷ []) ∷ []) text_whole text_back_whole refl refl
-        (none_doomed laws events Server (in_one_turn text_sent text_got Peer) ((text ∷ []) ∷ []) ((text_back ∷ []) ∷ []) text_whole text_back_whole refl refl) (λ d. d);
+    is_evidence = ended_evidence;
     is_verdict = (answered_fails Peer, record { wrong = (refl, refl, refl); first = own_end_first });
   }
+
+  pub closing_evidence : IsMarkedEvidenceOf Server (in_one_turn text_sent (text_got ++ policy_got) Peer) closing closing_marks
+  closing_evidence = is_marked laws events Server (in_one_turn text_sent (text_got ++ policy_got) Peer) ((text ∷ []) ∷ []) ((text_back ∷ policy_back ∷ []) ∷ []) text_whole policy_whole refl refl
+      (none_doomed laws events Server (in_one_turn text_sent (text_got ++ policy_got) Peer) ((text ∷ []) ∷ []) ((text_back ∷ policy_back ∷ []) ∷ []) text_whole policy_whole refl refl) (λ d. d)
 
   pub own_close : IsProtocolVerdictOf Server (in_one_turn text_sent (text_got ++ policy_got) Peer) (Loose loose.OwnClose)
   own_close = record {
     counted = closing;
     marks = closing_marks;
-    is_evidence = is_marked laws events Server (in_one_turn text_sent (text_got ++ policy_got) Peer) ((text ∷ []) ∷ []) ((text_back ∷ policy_back ∷ []) ∷ []) text_whole policy_whole refl refl
-        (none_doomed laws events Server (in_one_turn text_sent (text_got ++ policy_got) Peer) ((text ∷ []) ∷ []) ((text_back ∷ policy_back ∷ []) ∷ []) text_whole policy_whole refl refl) (λ d. d);
+    is_evidence = closing_evidence;
     is_verdict = (closing_fails, record { wrong = (inl (refl, refl), blames_none); first = own_close_first });
   }
 
@@ -287,10 +293,13 @@ module _ (laws : FrameLaws) (events : EventLaws) where
     };
   }
 
+  pub closed_evidence : IsMarkedEvidenceOf Server (in_one_turn close_sent [] Peer) closed closed_marks
+  closed_evidence = is_marked laws events Server (in_one_turn close_sent [] Peer) ((close ∷ []) ∷ []) ([] ∷ []) close_whole nothing_whole refl refl refl (λ d. d)
+
   pub no_close : IsProtocolVerdictOf Server (in_one_turn close_sent [] Peer) (Fail fail.Close)
   no_close = record {
     counted = closed;
     marks = closed_marks;
-    is_evidence = is_marked laws events Server (in_one_turn close_sent [] Peer) ((close ∷ []) ∷ []) ([] ∷ []) close_whole nothing_whole refl refl refl (λ d. d);
+    is_evidence = closed_evidence;
     is_verdict = record { wrong = ((refl, refl), refl, refl, inr (refl, refl)); first = close_first };
   }

@@ -49,7 +49,7 @@ ended_by_a_close = refl
 pub not_ended_by_a_ping : ends_echo (event.Ping [] ∷ []) ≡ false
 not_ended_by_a_ping = refl
 
--- ---- transcripts for `worked_verdicts` and `worked_protocol_verdicts`
+-- ---- transcripts for the worked verdicts
 
 -- an empty ping under a key of zeros, and the pong that answers it
 abbrev pub ping_sent : List ℕ

@@ -5,6 +5,7 @@ pub mod Doom
 pub mod Verdicts
 pub mod Marks
 pub mod Protocol
+pub mod Tapped
 pub mod Found
 pub mod Explanation
 pub mod Fairness

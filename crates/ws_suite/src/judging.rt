@@ -10,6 +10,7 @@ mod owed;
 mod pongs;
 mod protocol;
 mod replies;
+mod tapped;
 
 ghost use Rattle.std.specs.Prelude.{◌≡◌, [], IfOk, MatchBool};
 ghost use Rattle.ws_wire.specs.declared.role.Role.TheVariants.{Server};
@@ -19,10 +20,11 @@ ghost use Rattle.ws_suite.specs.Evidence.{got_turns, other_role, sent_turns};
 ghost use Rattle.ws_suite.specs.Explanation.{IsBeyondClose};
 ghost use Rattle.ws_suite.specs.InnerDoom.{AreDooms};
 ghost use Rattle.ws_suite.specs.InnerJudging.{without_pings};
-ghost use Rattle.ws_suite.specs.InnerMarks.{AreStreamsOf, IsEndingByTurn};
+ghost use Rattle.ws_suite.specs.InnerMarks.{AreStreamsOf, IsEndingByTurn, counted_of};
 ghost use Rattle.ws_suite.specs.Marks.{AreMarksOf, ArePongsBehind, HasUndefinedCodeCounted};
 ghost use Rattle.ws_suite.specs.Matching.{ends_with_close};
-ghost use Rattle.ws_suite.specs.Protocol.{IsProtocolVerdictOf, IsVerdictBy};
+ghost use Rattle.ws_suite.specs.Protocol.{IsMarkedEvidenceOf, IsProtocolVerdictOf, IsVerdictBy};
+ghost use Rattle.ws_suite.specs.Tapped.{IsTappedVerdictOf};
 ghost use Rattle.ws_suite.specs.Verdicts.{IsVerdictOf, IsVerdictOn};
 
 use crate::evidence::{Evidence, MarkedEvidence, Shown, evidence_of, marked, with_doom};
@@ -31,6 +33,7 @@ use crate::judging::findings::findings_of;
 use crate::judging::looses::first_loose;
 pub(crate) use crate::judging::owed::end_of_owed;
 pub(crate) use crate::judging::protocol::verdict_by_protocol;
+use crate::judging::tapped::verdict_tapped;
 use crate::verdict::Verdict;
 use std::alloc::Global;
 use ws_base::NoMemory;
@@ -98,10 +101,38 @@ fn judge_by_protocol(
 ) -> Result<Verdict, NoMemory>
     ensures { IfOk result (λ verdict. IsProtocolVerdictOf tested transcript.now verdict) }
 {
-    let shown = evidence_of(alloc, tested, transcript)?;
-    let marked = marked_with_doom(alloc, tested, transcript, shown)?;
+    let marked = marked_evidence_of(alloc, tested, transcript)?;
     let verdict = verdict_by_protocol(alloc, tested, &marked)?;
     Ok(verdict)
+}
+
+/// Whether an end that was tapped, which has this role, kept RFC 6455, by what it was sent and what came from it. That
+/// it closed first isn't told, and that it ended the connection where it was the first to do so; a ping that it left is
+/// a skipped pong.
+pub fn judge_tapped<T: AsTranscript>(
+    alloc: Global,
+    tested: Role,
+    is_first: bool,
+    transcript: &T,
+) -> Result<Verdict, NoMemory>
+    ensures { IfOk result (λ verdict. IsTappedVerdictOf tested is_first (T.transcript transcript.now) verdict) }
+{
+    let marked = marked_evidence_of(alloc, tested, &transcript.as_transcript())?;
+    let verdict = verdict_tapped(alloc, tested, is_first, &marked)?;
+    Ok(verdict)
+}
+
+/// The evidence of a transcript as it counts by the protocol.
+fn marked_evidence_of(
+    alloc: Global,
+    tested: Role,
+    transcript: &TranscriptRef<'_>,
+) -> Result<MarkedEvidence, NoMemory>
+    ensures { IfOk result (λ marked. IsMarkedEvidenceOf tested transcript.now (counted_of marked) marked.marks) }
+{
+    let shown = evidence_of(alloc, tested, transcript)?;
+    let marked = marked_with_doom(alloc, tested, transcript, shown)?;
+    Ok(marked)
 }
 
 /// The evidence as it counts by the protocol: a close whose code the standard leaves undefined counts as one, and then

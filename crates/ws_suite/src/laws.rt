@@ -1,6 +1,6 @@
 //! Laws over the definitions, each the contract of a function that does nothing: proofs of the layers above call them.
 
-ghost use Rattle.std.specs.Prelude.{◌≡◌, ◌++◌, ℕ, List, []};
+ghost use Rattle.std.specs.Prelude.{◌≡◌, ◌++◌, ℕ, Bool, false, true, List, []};
 ghost use Rattle.std.specs.List.{concat};
 ghost use Rattle.ws_wire.specs.declared.role.Role.{Role};
 ghost use Rattle.ws_wire.specs.declared.role.Role.TheVariants.{Client, Server};
@@ -20,6 +20,7 @@ ghost use Rattle.ws_suite.specs.Examples.{pong_got, text_got, text_sent};
 ghost use Rattle.ws_suite.specs.Fairness.{IsEchoTranscript};
 ghost use Rattle.ws_suite.specs.Growing.{AreTurnsAnswered};
 ghost use Rattle.ws_suite.specs.Protocol.{IsProtocolVerdictOf, IsVerdictBy};
+ghost use Rattle.ws_suite.specs.Tapped.{IsTappedVerdictOf};
 ghost use Rattle.ws_suite.specs.Verdicts.{IsVerdictOf};
 
 use crate::lemmas::{echo_reply_laws, frame_laws, session_laws};
@@ -36,6 +37,15 @@ pub fn one_verdict()
 pub fn one_verdict_by()
     ensures { (expected : Expectation) (tested : Role) (transcript : Transcript) (one other : Verdict) →
         IsVerdictBy expected tested transcript one → IsVerdictBy expected tested transcript other → one ≡ other }
+{
+    session_laws();
+}
+
+/// And of an end that was tapped.
+pub fn one_tapped_verdict()
+    ensures { (tested : Role) (is_first : Bool) (transcript : Transcript) (one other : Verdict) →
+        IsTappedVerdictOf tested is_first transcript one → IsTappedVerdictOf tested is_first transcript other →
+        one ≡ other }
 {
     session_laws();
 }
@@ -98,6 +108,18 @@ pub fn worked_protocol_verdicts()
     ensures no_pong { IsProtocolVerdictOf Server (in_two_turns ping_sent [] close_sent close_got Peer)
         (Fail fail.Pongs) }
     ensures no_close { IsProtocolVerdictOf Server (in_one_turn close_sent [] Peer) (Fail fail.Close) }
+{
+    frame_laws();
+    session_laws();
+}
+
+/// Worked examples of verdicts on a tapped server: it sends a message of its own and ends the connection, first or not;
+/// it closes it; and it ends it at a close.
+pub fn worked_tapped_verdicts()
+    ensures first_end { IsTappedVerdictOf Server true (in_one_turn text_sent text_got Peer) (Loose loose.OwnEnd) }
+    ensures second_end { IsTappedVerdictOf Server false (in_one_turn text_sent text_got Peer) Pass }
+    ensures own_close { IsTappedVerdictOf Server false (in_one_turn text_sent (text_got ++ policy_got) Peer) Pass }
+    ensures no_close { IsTappedVerdictOf Server true (in_one_turn close_sent [] Peer) (Fail fail.Close) }
 {
     frame_laws();
     session_laws();

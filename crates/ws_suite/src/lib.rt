@@ -20,7 +20,7 @@ pub use evidence::{
     Walk, has_undefined_close,
 };
 pub use explaining::{Explanation, explain, explain_with};
-pub use judging::{judge, judge_end, judge_with};
+pub use judging::{judge, judge_end, judge_tapped, judge_with};
 pub use rules::{rule, rule_with};
 pub use verdict::{FailWhy, LooseWhy, Verdict};
 pub use ws_scripts::{

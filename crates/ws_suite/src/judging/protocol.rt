@@ -61,7 +61,7 @@ fn has_own_close(x: &Evidence) -> bool
 }
 
 /// Whether what was got holds a message above the limit, which the standard doesn't bound.
-fn is_too_big(got: &Option<InTurn<Ending>>) -> bool
+pub(super) fn is_too_big(got: &Option<InTurn<Ending>>) -> bool
     ensures { result ≡ is_too_big got.now }
 {
     match got {
@@ -157,7 +157,7 @@ fn first_fail(tested: Role, marked: &MarkedEvidence, pongs: OwedPongs) -> Option
 }
 
 /// Whether what was got breaks a rule of frames.
-fn breaks_frames(x: &Evidence, marks: Marks) -> bool
+pub(super) fn breaks_frames(x: &Evidence, marks: Marks) -> bool
     ensures { IsTrue result ↔ BreaksFrames (without_pings x.now) marks }
 {
     if ends_with_fault(&x.got.ending) {
@@ -185,7 +185,7 @@ fn leaves_ping(marked: &MarkedEvidence, pongs: OwedPongs) -> bool
 }
 
 /// Whether a close had to be answered and wasn't.
-fn leaves_close(x: &Evidence, marks: Marks) -> bool
+pub(super) fn leaves_close(x: &Evidence, marks: Marks) -> bool
     ensures { IsTrue result ↔ LeavesClose (without_pings x.now) marks }
 {
     if !lacks_close(x) || is_too_big(&x.got.ending) || marks.is_open {
@@ -206,7 +206,7 @@ fn lacks_close(x: &Evidence) -> bool
 }
 
 /// Whether the tested end had to end the connection and didn't.
-fn stays_open(tested: Role, x: &Evidence, marks: Marks) -> bool
+pub(super) fn stays_open(tested: Role, x: &Evidence, marks: Marks) -> bool
     ensures { IsTrue result ↔ StaysOpen tested (without_pings x.now) marks }
 {
     if x.ended != Ended::Tester || is_too_big(&x.got.ending) || !must_end(x, marks) {
@@ -250,7 +250,11 @@ fn must_end(x: &Evidence, marks: Marks) -> bool
 // ---- the Looses
 
 /// The lowest Loose that applies.
-fn first_loose(tested: Role, marked: &MarkedEvidence, pongs: OwedPongs) -> Option<LooseWhy>
+pub(super) fn first_loose(
+    tested: Role,
+    marked: &MarkedEvidence,
+    pongs: OwedPongs,
+) -> Option<LooseWhy>
     requires { AreOwedFindings (counted_of marked.now) pongs }
     ensures { MatchOption result
         ((why : LooseWhy) → IsLooseByProtocol tested (counted_of marked.now) marked.now.marks why → ⊥)
@@ -302,7 +306,7 @@ fn blames_fault(x: &Evidence) -> bool
 }
 
 /// The lowest of the Looses that stand behind those of an own close.
-fn loose_end(tested: Role, x: &Evidence, marks: Marks) -> Option<LooseWhy>
+pub(super) fn loose_end(tested: Role, x: &Evidence, marks: Marks) -> Option<LooseWhy>
     ensures { MatchOption result ((why : LooseWhy) → IsLaterLoose tested (without_pings x.now) marks why → ⊥)
         (IsLowest LooseWhy loose_number (IsLaterLoose tested (without_pings x.now) marks)) }
 {
