@@ -3,6 +3,8 @@ use Rattle.std.specs.Prelude.{◌≡◌, ℕ, ◌⊎◌, ◌==◌, List, [], ◌
 use Rattle.std.specs.List.{concat}
 use Rattle.std.specs.Fmt.{decimal}
 use Rattle.ws_frame.specs.Devices.{Device, IsUntouched}
+use Rattle.ws_upgrade.specs.Words.{head_fault_name}
+use Rattle.ws_upgrade.specs.declared.faults.HeadFault.{HeadFault}
 use Rattle.wst_commands.specs.Devices.{Tells}
 use Rattle.wst_commands.specs.RunDamages.{known_damage_words, run_damage_words}
 use Rattle.wst_commands.specs.StepDamages.{damage_words}
@@ -17,6 +19,8 @@ use Rattle.wst_commands.specs.declared.fault.Fault.TheVariants.{JunitWithJson, J
 use Rattle.wst_commands.specs.declared.fault.Fault.TheVariants.{CaptureOfServer, HeadIsCut, SummaryWithJson}
 use Rattle.wst_commands.specs.declared.fault.Fault.TheVariants.{BadAtOnce, BadDeadline, DeadlineWithUnit}
 use Rattle.wst_commands.specs.declared.fault.Fault.TheVariants.{TimeoutWithUnit}
+use Rattle.wst_commands.specs.declared.fault.Fault.TheVariants.{BadFrom, MissingBytes, NoOpening, NotFollowed}
+use Rattle.wst_commands.specs.declared.fault.Fault.TheVariants.{RefusedResponse, RoleWithoutFrom}
 use Rattle.wst_commands.specs.declared.fault.ListenFault.{ListenFault}
 use Rattle.wst_commands.specs.declared.fault.ListenFault.TheVariants as why
 
@@ -32,6 +36,12 @@ damage_line number what = concat (codes "line " ∷ decimal number ∷ codes ": 
 abbrev pub TellsLine : ℕ → List ℕ → Exit → Device → Type 0
 TellsLine number what exit faults =
     ((exit ≡ Damaged) × Tells (damage_line number what) faults) ⊎ LacksMemory exit faults
+
+-- the line that tells why the head of a response is refused is told, or memory ran out for it
+abbrev pub TellsRefusedResponse : HeadFault → Exit → Device → Type 0
+TellsRefusedResponse fault exit faults =
+    ((exit ≡ Damaged) × Tells (concat (codes "FAIL Head " ∷ head_fault_name fault ∷ codes "\n" ∷ [])) faults)
+    ⊎ LacksMemory exit faults
 
 -- what is told of the first damaged line of a capture: of line 1 also which it is
 abbrev pub no_capture_words : ℕ → List ℕ
@@ -64,6 +74,9 @@ TellsFault BadAtOnce exit faults = (exit ≡ WrongWords)
 TellsFault StreamWithCapture exit faults =
     (exit ≡ WrongWords) × Tells (codes "--capture takes no --from or --budget\n") faults
 TellsFault RoleWithoutCapture exit faults = (exit ≡ WrongWords) × Tells (codes "--role takes --capture\n") faults
+TellsFault BadFrom exit faults = (exit ≡ WrongWords)
+    × Tells (codes "bad from\n  the program whose output is read: --from tshark\n") faults
+TellsFault RoleWithoutFrom exit faults = (exit ≡ WrongWords) × Tells (codes "--role takes --from\n") faults
 TellsFault SummaryWithJson exit faults = (exit ≡ WrongWords) × Tells (codes "--summary takes no --json\n") faults
 TellsFault JunitWithJson exit faults = (exit ≡ WrongWords) × Tells (codes "--junit takes no --json\n") faults
 TellsFault JunitWithSummary exit faults = (exit ≡ WrongWords) × Tells (codes "--junit takes no --summary\n") faults
@@ -71,6 +84,12 @@ TellsFault HeadIsCut exit faults = (exit ≡ Damaged) × Tells (codes "head is c
 TellsFault (NotAMove number) exit faults = TellsLine number (codes "not a move") exit faults
 TellsFault (NotACall number) exit faults = TellsLine number (codes "not a call") exit faults
 TellsFault (NotACapture number) exit faults = TellsLine number (no_capture_words number) exit faults
+TellsFault (NotFollowed number) exit faults = TellsLine number (codes "not a followed stream") exit faults
+TellsFault (MissingBytes number) exit faults = TellsLine number (codes "bytes are missing") exit faults
+TellsFault NoOpening exit faults = (exit ≡ Damaged)
+    × Tells (codes "no request of an opening handshake\n  of another connection: follow,tcp,raw,1\n")
+    faults
+TellsFault (RefusedResponse fault) exit faults = TellsRefusedResponse fault exit faults
 TellsFault (NotAStep number damage) exit faults = TellsLine number (damage_words damage) exit faults
 TellsFault (NotAVerdict number damage) exit faults = TellsLine number (known_damage_words damage) exit faults
 TellsFault (NotAResult number damage) exit faults = TellsLine number (run_damage_words damage) exit faults

@@ -2,7 +2,8 @@
 
 ghost use Rattle.std.specs.Prelude.{◌≡◌};
 ghost use Rattle.wst_commands.specs.Devices.{StaysFailed};
-ghost use Rattle.wst_commands.specs.Faults.{Ends, LacksMemory, TellsFault, TellsLine, no_capture_words};
+ghost use Rattle.wst_commands.specs.Faults.{Ends, LacksMemory, TellsFault, TellsLine, TellsRefusedResponse};
+ghost use Rattle.wst_commands.specs.Faults.{no_capture_words};
 ghost use Rattle.wst_commands.specs.Faults.{not_listening_line};
 ghost use Rattle.wst_commands.specs.declared.fault.Fault.TheVariants as variant;
 ghost use Rattle.ws_frame.specs.Devices.{watched};
@@ -15,6 +16,7 @@ use std::alloc::{AllocError, Global};
 use std::io::Write;
 use ws_base::NoMemory;
 use ws_frame::Watched;
+use ws_upgrade::HeadFault;
 
 /// Why nothing can be listened at.
 #[derive(Clone, Copy, PartialEq, Eq)]
@@ -50,6 +52,10 @@ pub enum Fault {
     StreamWithCapture,
     /// The tested end is named without a capture.
     RoleWithoutCapture,
+    /// The input is said to be of a program that isn't known.
+    BadFrom,
+    /// The end to judge is named without a program.
+    RoleWithoutFrom,
     /// A summary and an index are asked for.
     SummaryWithJson,
     /// A JUnit document and an index are asked for.
@@ -64,6 +70,14 @@ pub enum Fault {
     NotACall(u64),
     /// The first line that is damaged in a capture, counted from 1.
     NotACapture(u64),
+    /// The first line that is damaged in a followed stream, counted from 1.
+    NotFollowed(u64),
+    /// The first line of a followed stream, counted from 1, in whose place bytes are missing.
+    MissingBytes(u64),
+    /// Neither end of a followed stream begins with a request that is accepted.
+    NoOpening,
+    /// The response to it is refused.
+    RefusedResponse(HeadFault),
     /// The first line that is damaged in a script of steps, counted from 1, and what is wrong with it.
     NotAStep(u64, StepDamage),
     /// The first line of an earlier run that tells no verdict, and may not stand beside one, counted from 1, and what
@@ -177,6 +191,17 @@ pub fn tell_fault<F: Write>(alloc: Global, fault: Fault, faults: &mut Watched<F>
             tell(b"--role takes --capture\n", faults);
             Exit::WrongWords
         }
+        Fault::BadFrom => {
+            tell(
+                b"bad from\n  the program whose output is read: --from tshark\n",
+                faults,
+            );
+            Exit::WrongWords
+        }
+        Fault::RoleWithoutFrom => {
+            tell(b"--role takes --from\n", faults);
+            Exit::WrongWords
+        }
         Fault::SummaryWithJson => {
             tell(b"--summary takes no --json\n", faults);
             Exit::WrongWords
@@ -196,6 +221,16 @@ pub fn tell_fault<F: Write>(alloc: Global, fault: Fault, faults: &mut Watched<F>
         Fault::NotAMove(line) => tell_line(alloc, line, "not a move", faults),
         Fault::NotACall(line) => tell_line(alloc, line, "not a call", faults),
         Fault::NotACapture(line) => tell_line(alloc, line, no_capture_words(line), faults),
+        Fault::NotFollowed(line) => tell_line(alloc, line, "not a followed stream", faults),
+        Fault::MissingBytes(line) => tell_line(alloc, line, "bytes are missing", faults),
+        Fault::NoOpening => {
+            tell(
+                b"no request of an opening handshake\n  of another connection: follow,tcp,raw,1\n",
+                faults,
+            );
+            Exit::Damaged
+        }
+        Fault::RefusedResponse(fault) => tell_refusal(alloc, fault, faults),
         Fault::NotAStep(line, damage) => tell_line(alloc, line, damage.words(), faults),
         Fault::NotAVerdict(line, damage) => tell_line(alloc, line, damage.known_words(), faults),
         Fault::NotAResult(line, damage) => tell_line(alloc, line, damage.words(), faults),
@@ -267,6 +302,20 @@ fn tell_line<F: Write>(alloc: Global, line: u64, what: &str, faults: &mut Watche
     ensures still { StaysFailed faults.old faults.new }
 {
     match format!(in alloc; "line {line}: {what}\n") {
+        Ok(text) => {
+            tell(text.as_bytes(), faults);
+            Exit::Damaged
+        }
+        Err(_) => tell_no_memory(faults),
+    }
+}
+
+/// Tells why the head of a response is refused.
+fn tell_refusal<F: Write>(alloc: Global, fault: HeadFault, faults: &mut Watched<F>) -> Exit
+    ensures told { TellsRefusedResponse fault result (watched F.contents faults.old faults.new) }
+    ensures still { StaysFailed faults.old faults.new }
+{
+    match format!(in alloc; "FAIL Head {fault}\n") {
         Ok(text) => {
             tell(text.as_bytes(), faults);
             Exit::Damaged

@@ -73,7 +73,7 @@ fn plan_of(options: ShowOptions) -> Result<ShowPlan, Fault>
 }
 
 /// The end that an option names, and the server where it is left out.
-fn role_of(role: Option<Role>) -> Role
+pub(crate) fn role_of(role: Option<Role>) -> Role
     ensures { result ≡ shown_role role }
 {
     match role {
