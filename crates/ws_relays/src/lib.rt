@@ -5,6 +5,7 @@
 //! and told, until as many as are to be have ended. Each keeps its place, and none waits for another one.
 #![tactic(auto)]
 
+mod ages;
 mod ends;
 mod once;
 mod relay;

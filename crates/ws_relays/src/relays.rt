@@ -14,11 +14,13 @@ ghost use Rattle.ws_relays.specs.declared.ends.EndEvent.TheVariants as came;
 ghost use Rattle.ws_relays.specs.declared.relays.Pair.TheVariants as pair;
 ghost use Rattle.ws_relays.specs.declared.relays.RelayEvent.TheVariants as event;
 
+use crate::ages::PlaceAges;
 use crate::ends::{EndEvent, Ends};
 use crate::once::Happened;
 use crate::relay::{Fate, Relay};
 use crate::tapping::Tapping;
 use std::alloc::Global;
+use std::cell::Cell;
 use std::io::Write;
 use std::mem;
 use ws_base::NoMemory;
@@ -130,11 +132,16 @@ pub(crate) struct Relays<'a, A, S, W> {
     there: usize,
     /// No time is told that is earlier.
     time: u64,
+    ages: PlaceAges<'a>,
 }
 
 impl<'a, A: Copy, S: NonBlocking + Drop, W: Copy> Relays<'a, A, S, W> {
     /// Nobody has come.
-    pub(crate) fn new(alloc: Global, tapping: &Tapping<'a>) -> Result<Relays<'a, A, S, W>, NoMemory>
+    pub(crate) fn new(
+        alloc: Global,
+        tapping: &Tapping<'a>,
+        age: &'a Cell<u64>,
+    ) -> Result<Relays<'a, A, S, W>, NoMemory>
         ensures nobody { IfOk result (λ made. AreRelays S.did tapping.now made no_parts) }
         ensures taken { IfOk result (λ made. made.taken ≡ 0) }
     {
@@ -142,6 +149,7 @@ impl<'a, A: Copy, S: NonBlocking + Drop, W: Copy> Relays<'a, A, S, W> {
         let Some(places) = len.checked_mul(2) else {
             return Err(NoMemory);
         };
+        let ages = PlaceAges::new(alloc, len, age)?;
         let mut ends = Ends::new(alloc, places)?;
         let mut pairs = Vec::new(alloc);
         let mut next = 0;
@@ -159,6 +167,7 @@ impl<'a, A: Copy, S: NonBlocking + Drop, W: Copy> Relays<'a, A, S, W> {
             taken: 0,
             there: 0,
             time: 0,
+            ages,
         })
     }
 
@@ -292,6 +301,7 @@ impl<'a, A: Copy, S: NonBlocking + Drop, W: Copy> Relays<'a, A, S, W> {
         ensures taken { self.new.taken ≡ number }
     {
         self.ends.put(at, client, self.time);
+        self.ages.begin(at, self.time);
         self.taken = number;
         self.there = self.there.saturating_add(1);
     }
@@ -412,6 +422,7 @@ impl<'a, A: Copy, S: NonBlocking + Drop, W: Copy> Relays<'a, A, S, W> {
         ensures quiet { IfOk result IsNoShortage }
     {
         let (at, role) = end_at(self.pairs.len(), place);
+        self.ages.tell(at, self.time);
         match pair_of(&mut self.pairs, at) {
             Pair::Joined(relay) => self.pass_on(at, role, relay, happened, output),
             Pair::Free | Pair::Joining(..) => Ok(None),
@@ -474,6 +485,7 @@ impl<'a, A: Copy, S: NonBlocking + Drop, W: Copy> Relays<'a, A, S, W> {
         ensures taken { self.new.taken ≡ self.old.taken }
     {
         let place = self.pairs.len() + at;
+        self.ages.tell(at, self.time);
         self.ends.close(place);
         self.ends.free(at);
         self.pairs[at] = Pair::Free;

@@ -8,6 +8,7 @@ ghost use Rattle.ws_relays.specs.Tappings.{TapsAll, ToldOnce, last_tap_number, r
 
 use crate::relays::{RelayEnd, RelayEvent, RelayFault, Relays};
 use std::alloc::Global;
+use std::cell::Cell;
 use std::io::Write;
 use ws_base::NoMemory;
 use ws_clients::Counted;
@@ -71,13 +72,15 @@ pub trait ShortageSink {
 
 /// Taps connections between clients that come and the server, so many at a time, until as many as are to be have ended.
 /// Each has a number, in the order in which they come. Its lines are written as they become certain, and behind them
-/// one that says how it ended, which is flushed.
+/// one that says how it ended, which is flushed. Before lines are written the age of their connection stands in `age`,
+/// in milliseconds since its client came.
 pub fn tap_clients<N, L, P, O, K>(
     alloc: Global,
     tapping: &Tapping<'_>,
     over: Over<N, L, P>,
     output: &mut Watched<O>,
     shortage: &mut K,
+    age: &Cell<u64>,
 ) -> TappingEnd
 where
     N: Network + Drop,
@@ -90,7 +93,7 @@ where
         (watched O.contents output.old output.new) result }
     ensures short { ToldOnce K.told shortage.old shortage.new }
 {
-    tapping_end(tap_all(alloc, tapping, over, output, shortage))
+    tapping_end(tap_all(alloc, tapping, over, output, shortage, age))
 }
 
 /// How the tapping has ended, where it did so.
@@ -112,6 +115,7 @@ fn tap_all<N, L, P, O, K>(
     over: Over<N, L, P>,
     output: &mut Watched<O>,
     shortage: &mut K,
+    age: &Cell<u64>,
 ) -> Result<TappingEnd, RelayFault>
 where
     N: Network + Drop,
@@ -136,7 +140,7 @@ where
     let (mut network, mut poller) = (network, poller);
     let mut listener = Counted::new(listener, Some(u64::from(last)));
     let mut room = room_of(alloc)?;
-    let mut relays = Relays::new(alloc, tapping)?;
+    let mut relays = Relays::new(alloc, tapping, age)?;
     let mut told = 0;
     let mut is_short = false;
     let mut left = u64::MAX;

@@ -11,7 +11,8 @@ use Rattle.std.proofs.lemmas.List.Elements.{All-head, All-tail, All-take}
 use Rattle.std.proofs.lemmas.Option.{none-some}
 use Rattle.ws_formats.specs.Lines.{IsLine}
 use Rattle.wst_noted.specs.TimedLines.{AreTimed, GrowsByTime, IsTime, LinePlace, Astray, InLine, InTime, are_of_time}
-use Rattle.wst_noted.specs.TimedLines.{is_of_time, known_lines, next_place, place_behind, timed_lines_at, without_times}
+use Rattle.wst_noted.specs.TimedLines.{is_of_time, known_lines, next_place, place_behind, place_in, timed_lines_at}
+use Rattle.wst_noted.specs.TimedLines.{without_times}
 
 -- ---- bytes of a time
 
@@ -102,11 +103,6 @@ grows_time old first second new n fits seconds point (time, is, (digits, ends, o
 
 -- ---- what more bytes make of lines
 
--- where a byte comes, if it is in a line or not
-abbrev pub place_in : Bool → LinePlace
-place_in true = InLine
-place_in false = InTime
-
 known_at : (b : Bool) (lines : List ℕ) → timed_lines_at b (place_in b) lines ≡ Some lines
 known_at true lines = refl
 known_at false lines = refl
@@ -125,16 +121,20 @@ grow_at true b Astray last lines more bs is grown ends = tt
 grow_at false b InLine last lines more bs is grown ends = tt
 grow_at false b Astray last lines more bs is grown ends = tt
 
+-- nothing was written yet
+pub none_begun : (first : LinePlace) (b : Bool) → first ≡ place_in b → known_lines first b (Some []) ≡ Some []
+none_begun first b is = ap (λ (p : LinePlace). timed_lines_at b p []) is ∙ known_at b []
+
 -- lines that end in a line or not grow by what is no time of these bytes
-pub lines_grow : (a b : Bool) (old new : Option (List ℕ)) (bs : List ℕ) → Appends old new bs
+pub lines_grow : (first : LinePlace) (a b : Bool) (old new : Option (List ℕ)) (bs : List ℕ) → Appends old new bs
     → place_behind (place_in a) bs ≡ place_in b
-    → Appends (known_lines a old) (known_lines b new) (without_times (place_in a) bs)
-lines_grow a b None new bs grows ends = tt
-lines_grow a b (Some xs) None bs grows ends = absurd grows
-lines_grow a b (Some xs) (Some ys) bs grows ends = grow_at a b (place_behind InTime xs) (place_behind InTime ys)
-    (without_times InTime xs) (without_times InTime ys) bs
-    (ap (place_behind InTime) grows ∙ place_append InTime xs bs)
-    (ap (without_times InTime) grows ∙ lines_append InTime xs bs) ends
+    → Appends (known_lines first a old) (known_lines first b new) (without_times (place_in a) bs)
+lines_grow first a b None new bs grows ends = tt
+lines_grow first a b (Some xs) None bs grows ends = absurd grows
+lines_grow first a b (Some xs) (Some ys) bs grows ends = grow_at a b (place_behind first xs) (place_behind first ys)
+    (without_times first xs) (without_times first ys) bs
+    (ap (place_behind first) grows ∙ place_append first xs bs)
+    (ap (without_times first) grows ∙ lines_append first xs bs) ends
 
 kept_none : (old new : Option (List ℕ)) (bs : List ℕ) → bs ≡ [] → Appends old new bs → Keeps old new
 kept_none None new bs none grows = tt
@@ -142,26 +142,26 @@ kept_none (Some xs) None bs none grows = absurd grows
 kept_none (Some xs) (Some ys) bs none grows = grows ∙ ap (λ (l : List ℕ). xs ++ l) none ∙ append-nil xs
 
 -- a time that is written whole
-time_added : (old new : Option (List ℕ)) (bs : List ℕ) → IsTime bs → Appends old new bs
-    → Keeps (known_lines false old) (known_lines true new)
-time_added old new bs (time, is, of) grows =
+time_added : (first : LinePlace) (old new : Option (List ℕ)) (bs : List ℕ) → IsTime bs → Appends old new bs
+    → Keeps (known_lines first false old) (known_lines first true new)
+time_added first old new bs (time, is, of) grows =
     let place : place_behind InTime bs ≡ InLine = ap (place_behind InTime) is ∙ place_append InTime time (32 ∷ [])
     ∙ ap (λ (p : LinePlace). place_behind p (32 ∷ [])) (of_time_place time of) in
     let none : without_times InTime bs ≡ [] = ap (without_times InTime) is ∙ lines_append InTime time (32 ∷ [])
     ∙ ap₂ (λ (l : List ℕ) (p : LinePlace). l ++ without_times p (32 ∷ [])) (of_time_none time of)
     (of_time_place time of) in
-    kept_none (known_lines false old) (known_lines true new) (without_times InTime bs) none
-    (lines_grow false true old new bs grows place)
+    kept_none (known_lines first false old) (known_lines first true new) (without_times InTime bs) none
+    (lines_grow first false true old new bs grows place)
 
 -- or of which only a beginning is written
-front_added : (old new : Option (List ℕ)) (bs : List ℕ) (n : ℕ) → IsTime bs → n < length bs
-    → Appends old new (take n bs) → Keeps (known_lines false old) (known_lines false new)
-front_added old new bs n (time, is, of) less grows =
+front_added : (first : LinePlace) (old new : Option (List ℕ)) (bs : List ℕ) (n : ℕ) → IsTime bs → n < length bs
+    → Appends old new (take n bs) → Keeps (known_lines first false old) (known_lines first false new)
+front_added first old new bs n (time, is, of) less grows =
     let len : length bs ≡ length time + 1 = ap length is ∙ length-append time (32 ∷ []) in
     let front : take n bs ≡ take n time = ap (take n) is ∙ take-append-le n time (32 ∷ []) (omega (arith, len, less)) in
     let of_front : are_of_time (take n bs) ≡ true = ap are_of_time front ∙ of_time_take n time of in
-    kept_none (known_lines false old) (known_lines false new) (without_times InTime (take n bs))
-    (of_time_none (take n bs) of_front) (lines_grow false false old new (take n bs) grows
+    kept_none (known_lines first false old) (known_lines first false new) (without_times InTime (take n bs))
+    (of_time_none (take n bs) of_front) (lines_grow first false false old new (take n bs) grows
     (of_time_place (take n bs) of_front))
 
 take_all : (n : ℕ) (xs : List ℕ) → length xs ≤ n → take n xs ≡ xs
@@ -171,17 +171,19 @@ take_all (suc n) [] le = refl
 take_all (suc n) (x ∷ xs) le = ap (λ (l : List ℕ). x ∷ l) (take_all n xs (omega (arith, le)))
 
 -- where the line isn't begun
-pub time_whole : (b : Bool) (old new : Option (List ℕ)) (bs : List ℕ) (n : ℕ) → b ≡ false → IsTime bs → length bs ≤ n
-    → Appends old new (take n bs) → Keeps (known_lines b old) (known_lines true new)
-time_whole b old new bs n is time le grows =
-    subst (λ (d : Bool). Keeps (known_lines d old) (known_lines true new)) (sym is)
-    (time_added old new bs time (subst (Appends old new) (take_all n bs le) grows))
+pub time_whole : (first : LinePlace) (b : Bool) (old new : Option (List ℕ)) (bs : List ℕ) (n : ℕ) → b ≡ false
+    → IsTime bs → length bs ≤ n
+    → Appends old new (take n bs) → Keeps (known_lines first b old) (known_lines first true new)
+time_whole first b old new bs n is time le grows =
+    subst (λ (d : Bool). Keeps (known_lines first d old) (known_lines first true new)) (sym is)
+    (time_added first old new bs time (subst (Appends old new) (take_all n bs le) grows))
 
-pub time_begun : (b : Bool) (old new : Option (List ℕ)) (bs : List ℕ) (n : ℕ) → b ≡ false → IsTime bs → n < length bs
-    → Appends old new (take n bs) → Keeps (known_lines b old) (known_lines b new)
-time_begun b old new bs n is time less grows =
-    subst (λ (d : Bool). Keeps (known_lines d old) (known_lines d new)) (sym is)
-    (front_added old new bs n time less grows)
+pub time_begun : (first : LinePlace) (b : Bool) (old new : Option (List ℕ)) (bs : List ℕ) (n : ℕ) → b ≡ false
+    → IsTime bs → n < length bs
+    → Appends old new (take n bs) → Keeps (known_lines first b old) (known_lines first b new)
+time_begun first b old new bs n is time less grows =
+    subst (λ (d : Bool). Keeps (known_lines first d old) (known_lines first d new)) (sym is)
+    (front_added first old new bs n time less grows)
 
 -- ---- bytes of a line
 
@@ -201,12 +203,13 @@ in_line_same (x ∷ a) p = ap (λ (l : List ℕ). x ∷ l) (ap (λ (q : LinePlac
     (in_line x (All-head (λ (b : ℕ). b ≢ 10) x a p)) ∙ in_line_same a (All-tail (λ (b : ℕ). b ≢ 10) x a p))
 
 -- a beginning of these bytes of a line was written
-pub line_grows : (old new : Option (List ℕ)) (bs : List ℕ) (n : ℕ) → IsLine bs → Appends old new (take n bs)
-    → Appends (known_lines true old) (known_lines true new) (take n bs)
-line_grows old new bs n line grows =
+pub line_grows : (first : LinePlace) (old new : Option (List ℕ)) (bs : List ℕ) (n : ℕ) → IsLine bs
+    → Appends old new (take n bs)
+    → Appends (known_lines first true old) (known_lines first true new) (take n bs)
+line_grows first old new bs n line grows =
     let front = All-take (λ (b : ℕ). b ≢ 10) n bs line in
-    subst (λ (l : List ℕ). Appends (known_lines true old) (known_lines true new) l) (in_line_same (take n bs) front)
-    (lines_grow true true old new (take n bs) grows (in_line_place (take n bs) front))
+    subst (λ (l : List ℕ). Appends (known_lines first true old) (known_lines first true new) l) (in_line_same (take n bs) front)
+    (lines_grow first true true old new (take n bs) grows (in_line_place (take n bs) front))
 
 apart_line : InLine ≡ Astray → ⊥
 apart_line bad = absurd (cc)
@@ -224,35 +227,40 @@ timed_at false InLine some lines is = absurd (none-some lines is)
 timed_at false Astray some lines is = absurd (none-some lines is)
 
 -- the lines behind times of what is known
-pub known_timed : (b : Bool) (held : Option (List ℕ)) (lines : List ℕ) → known_lines b held ≡ Some lines
-    → (bytes : List ℕ) × (held ≡ Some bytes) × AreTimed bytes lines
-known_timed b None lines is = absurd (none-some lines is)
-known_timed b (Some bytes) lines is =
-    (bytes, refl, timed_at b (place_behind InTime bytes) (without_times InTime bytes) lines is)
+pub known_timed : (first : LinePlace) (b : Bool) (held : Option (List ℕ)) (lines : List ℕ)
+    → known_lines first b held ≡ Some lines
+    → (bytes : List ℕ) × (held ≡ Some bytes) × AreTimed first bytes lines
+known_timed first b None lines is = absurd (none-some lines is)
+known_timed first b (Some bytes) lines is =
+    (bytes, refl, timed_at b (place_behind first bytes) (without_times first bytes) lines is)
 
 -- nothing was written
-pub kept_lines : (b : Bool) (old new : Option (List ℕ)) → Keeps old new → Keeps (known_lines b old) (known_lines b new)
-kept_lines b None new kept = tt
-kept_lines b (Some xs) None kept = absurd kept
-kept_lines b (Some xs) (Some ys) kept =
-    subst (λ (l : List ℕ). Keeps (known_lines b (Some xs)) (known_lines b (Some l))) (sym kept)
-    (Keeps-refl (known_lines b (Some xs)))
+pub kept_lines : (first : LinePlace) (b : Bool) (old new : Option (List ℕ)) → Keeps old new
+    → Keeps (known_lines first b old) (known_lines first b new)
+kept_lines first b None new kept = tt
+kept_lines first b (Some xs) None kept = absurd kept
+kept_lines first b (Some xs) (Some ys) kept =
+    subst (λ (l : List ℕ). Keeps (known_lines first b (Some xs)) (known_lines first b (Some l))) (sym kept)
+    (Keeps-refl (known_lines first b (Some xs)))
 
 -- what a write in a line makes of the lines
-pub line_writes : {E : Type 0} (b : Bool) (old new : Option (List ℕ)) (result : Result ℕ E) (bs : List ℕ) → b ≡ true
-    → IsLine bs → WriteAppends old new result bs → WriteAppends (known_lines b old) (known_lines b new) result bs
-line_writes b old new (Ok n) bs is line wrote =
-    subst (λ (d : Bool). Appends (known_lines d old) (known_lines d new) (take n bs)) (sym is)
-    (line_grows old new bs n line wrote)
-line_writes b old new (Err why) bs is line wrote = kept_lines b old new wrote
+pub line_writes : {E : Type 0} (first : LinePlace) (b : Bool) (old new : Option (List ℕ)) (result : Result ℕ E)
+    (bs : List ℕ) → b ≡ true
+    → IsLine bs → WriteAppends old new result bs
+    → WriteAppends (known_lines first b old) (known_lines first b new) result bs
+line_writes first b old new (Ok n) bs is line wrote =
+    subst (λ (d : Bool). Appends (known_lines first d old) (known_lines first d new) (take n bs)) (sym is)
+    (line_grows first old new bs n line wrote)
+line_writes first b old new (Err why) bs is line wrote = kept_lines first b old new wrote
 
 -- the end of a line was written
-pub feed_grows : (b : Bool) (old new : Option (List ℕ)) (n : ℕ) → b ≡ true → 0 < n → Appends old new (take n (10 ∷ []))
-    → Appends (known_lines b old) (known_lines false new) (take n (10 ∷ []))
-feed_grows b old new zero is some grows = absurd (omega (arith, some))
-feed_grows b old new (suc zero) is some grows =
-    subst (λ (d : Bool). Appends (known_lines d old) (known_lines false new) (10 ∷ [])) (sym is)
-    (lines_grow true false old new (10 ∷ []) grows refl)
-feed_grows b old new (suc (suc n)) is some grows =
-    subst (λ (d : Bool). Appends (known_lines d old) (known_lines false new) (10 ∷ [])) (sym is)
-    (lines_grow true false old new (10 ∷ []) grows refl)
+pub feed_grows : (first : LinePlace) (b : Bool) (old new : Option (List ℕ)) (n : ℕ) → b ≡ true → 0 < n
+    → Appends old new (take n (10 ∷ []))
+    → Appends (known_lines first b old) (known_lines first false new) (take n (10 ∷ []))
+feed_grows first b old new zero is some grows = absurd (omega (arith, some))
+feed_grows first b old new (suc zero) is some grows =
+    subst (λ (d : Bool). Appends (known_lines first d old) (known_lines first false new) (10 ∷ [])) (sym is)
+    (lines_grow first true false old new (10 ∷ []) grows refl)
+feed_grows first b old new (suc (suc n)) is some grows =
+    subst (λ (d : Bool). Appends (known_lines first d old) (known_lines first false new) (10 ∷ [])) (sym is)
+    (lines_grow first true false old new (10 ∷ []) grows refl)

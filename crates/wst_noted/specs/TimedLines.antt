@@ -37,18 +37,23 @@ timed_lines_at true InLine lines = Some lines
 timed_lines_at false InTime lines = Some lines
 timed_lines_at _ _ lines = None
 
--- known bytes, without the times, if they end in a line or not
-abbrev pub known_lines : Bool → Option (List ℕ) → Option (List ℕ)
-known_lines in_line None = None
-known_lines in_line (Some bytes) = timed_lines_at in_line (place_behind InTime bytes) (without_times InTime bytes)
+-- where a byte comes, if it is in a line or not
+abbrev pub place_in : Bool → LinePlace
+place_in true = InLine
+place_in false = InTime
 
--- the lines that were written
-abbrev pub timed_lines : {W K : Type 0} → (W → Option (List ℕ)) → TimedWriter W K → Option (List ℕ)
-timed_lines held output = known_lines output.is_in_line (held output.writer)
+-- known bytes from this place on, without the times, if they end in a line or not
+abbrev pub known_lines : LinePlace → Bool → Option (List ℕ) → Option (List ℕ)
+known_lines first in_line None = None
+known_lines first in_line (Some bytes) = timed_lines_at in_line (place_behind first bytes) (without_times first bytes)
 
--- these bytes are those lines, each behind a time: digits, a point and a space
-abbrev pub AreTimed : List ℕ → List ℕ → Type 0
-AreTimed bytes lines = (place_behind InTime bytes ≢ Astray) × (without_times InTime bytes ≡ lines)
+-- the lines that were written, from this place on
+abbrev pub timed_lines : {W K : Type 0} → LinePlace → (W → Option (List ℕ)) → TimedWriter W K → Option (List ℕ)
+timed_lines first held output = known_lines first output.is_in_line (held output.writer)
+
+-- these bytes from this place on are those lines, each behind a time: digits, a point and a space
+abbrev pub AreTimed : LinePlace → List ℕ → List ℕ → Type 0
+AreTimed first bytes lines = (place_behind first bytes ≢ Astray) × (without_times first bytes ≡ lines)
 
 -- all are bytes of a time
 abbrev pub are_of_time : List ℕ → Bool

@@ -7,6 +7,7 @@
 
 mod head_place;
 mod head_writer;
+mod line_times;
 mod noted_network;
 mod notes;
 mod stamps;
@@ -14,6 +15,7 @@ mod timed_writer;
 mod writing;
 
 pub use head_writer::HeadWriter;
+pub use line_times::{Ages, LineTimes};
 pub use noted_network::{NotedConnector, NotedListener, NotedNetwork, NotedStream};
 pub use notes::ConnectionNotes;
 pub use timed_writer::TimedWriter;

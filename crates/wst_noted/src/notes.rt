@@ -1,6 +1,7 @@
 //! What is noted of connections.
 
 use crate::head_place::{HeadFrom, HeadPlace};
+use crate::line_times::LineTimes;
 use crate::stamps::push_stamp;
 use std::alloc::{AllocError, Global};
 use std::cell::Cell;
@@ -69,13 +70,6 @@ impl<'a, C: Clock> ConnectionNotes<'a, C> {
         Instant::now(self.clock).ok()
     }
 
-    /// The time of a line: since the connection began over which bytes have passed last. From now on bytes of others
-    /// are not noted.
-    pub(crate) fn time(&self) -> Duration {
-        self.is_over.set(true);
-        self.time_since(self.start.get())
-    }
-
     /// The time since then: nothing where it isn't known.
     fn time_since(&self, start: Option<Instant>) -> Duration {
         let Some(start) = start else {
@@ -112,11 +106,6 @@ impl<'a, C: Clock> ConnectionNotes<'a, C> {
         self.heads.set(Some(heads));
     }
 
-    /// Memory ran out for a note.
-    pub(crate) fn lack_memory(&self) {
-        self.lacks_memory.set(true);
-    }
-
     /// An error where memory ran out for a note.
     pub fn check(&self) -> Result<(), NoMemory> {
         if self.lacks_memory.get() {
@@ -138,6 +127,27 @@ impl<'a, C: Clock> ConnectionNotes<'a, C> {
             }
             None => Vec::new(self.alloc),
         }
+    }
+}
+
+impl<C: Clock> LineTimes for ConnectionNotes<'_, C> {
+    ghost use Rattle.wst_noted.specs.TimedLines.{InTime};
+
+    ghost first = { InTime };
+
+    fn is_first_bare(&self) -> bool {
+        false
+    }
+
+    /// The time since the connection began over which bytes have passed last. From now on bytes of others are not
+    /// noted.
+    fn time(&self) -> Duration {
+        self.is_over.set(true);
+        self.time_since(self.start.get())
+    }
+
+    fn lack_memory(&self) {
+        self.lacks_memory.set(true);
     }
 }
 

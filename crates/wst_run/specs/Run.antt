@@ -45,7 +45,8 @@ RunsTask (Session options) exit input output faults =
     RunsCommand (λ ended. RunsSession options ended input output) exit faults
 RunsTask (Judge options) exit input output faults =
     RunsCommand (λ ended. RunsJudge options ended input output) exit faults
-RunsTask Convert exit input output faults = RunsCommand (λ ended. RunsConvert ended input output) exit faults
+RunsTask (Convert options) exit input output faults =
+    RunsCommand (λ ended. RunsConvert options ended input output) exit faults
 RunsTask (Cases options) exit input output faults = IsUntouched input × ListsCases options exit output faults
 RunsTask (Test options) exit input output faults = RunsTest options exit input output faults
 RunsTask (Send options) exit input output faults = RunsSend options exit input output faults

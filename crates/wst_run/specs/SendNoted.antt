@@ -8,7 +8,7 @@ use Rattle.wst_words.specs.declared.send.SendOptions.{SendOptions}
 use Rattle.wst_testing.specs.RunPlans.{TellsRefusal}
 use Rattle.wst_testing.specs.declared.run_plans.Refusal.{Refusal}
 use Rattle.wst_noted.specs.HeadWriting.{EndWith}
-use Rattle.wst_noted.specs.TimedLines.{AreTimed}
+use Rattle.wst_noted.specs.TimedLines.{AreTimed, InTime}
 use Rattle.wst_run.specs.Send.{IsSendPlan, RefusesSend, SendsOver, is_noted}
 use Rattle.wst_run.specs.ClientRuns.{GoesBefore}
 use Rattle.wst_run.specs.declared.send.SendPlan.{SendPlan}
@@ -16,8 +16,8 @@ use Rattle.wst_run.specs.declared.send.SendPlan.{SendPlan}
 -- known bytes are these lines, each behind a time, or end with them, each behind a time or none: where heads stand
 -- before them
 abbrev pub AreLinesNoted : Bool → Bool → List ℕ → Option (List ℕ) → Type 0
-AreLinesNoted true true lines held = (bytes : List ℕ) × AreTimed bytes lines × EndWith bytes held
-AreLinesNoted true false lines held = (bytes : List ℕ) × (held ≡ Some bytes) × AreTimed bytes lines
+AreLinesNoted true true lines held = (bytes : List ℕ) × AreTimed InTime bytes lines × EndWith bytes held
+AreLinesNoted true false lines held = (bytes : List ℕ) × (held ≡ Some bytes) × AreTimed InTime bytes lines
 AreLinesNoted false heads lines held = EndWith lines held
 
 -- What a device that held nothing holds is what the output holds, each line of it behind a time, where that held

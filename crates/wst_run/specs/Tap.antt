@@ -11,7 +11,7 @@ use Rattle.wst_commands.specs.declared.exit.Exit.{Exit}
 use Rattle.wst_commands.specs.declared.exit.Exit.TheVariants.{WrongWords}
 use Rattle.wst_commands.specs.declared.fault.Fault.{Fault}
 use Rattle.wst_commands.specs.declared.fault.Fault.TheVariants.{BadAtOnce}
-use Rattle.wst_services.specs.Tapping.{TapsAt}
+use Rattle.wst_services.specs.Tapping.{TapsOver}
 use Rattle.wst_services.specs.declared.tapping.TapPlan.{TapPlan}
 use Rattle.wst_testing.specs.RunPlans.{IsUrl}
 use Rattle.ws_targets.specs.Advice.{Advises}
@@ -68,13 +68,13 @@ TellsTapRefusal NoMemory exit faults = LacksMemory exit faults
 -- what the words ask for, of the server at this address
 abbrev pub IsTapPlan : TapOptions → List ℕ → TapPlan → Type 0
 IsTapPlan options server plan = (plan.server.now ≡ server) × (plan.listen ≡ options.listen)
-    × (plan.count ≡ options.count) × (plan.style ≡ options.style)
+    × (plan.count ≡ options.count) × (plan.style ≡ options.style) × (plan.time ≡ options.time)
     × IsCountWord 1000 plan.at_once options.at_once.now
 
 -- connections are tapped as is asked for, and how that ended is told behind what was told before
 abbrev pub RunsTapPlan : TapPlan → Exit → Device → Device → Type 0
 RunsTapPlan plan exit output faults = (ended : Result Exit Fault) × (mid : Option (List ℕ)) × (failed : Bool)
-    × TapsAt plan ended output (record { failed = failed; old = faults.old; new = mid })
+    × TapsOver plan ended output (record { failed = failed; old = faults.old; new = mid })
     × Ends ended exit (record { failed = faults.failed; old = mid; new = faults.new })
 
 -- those to the server at this address are; or the word gives no number of them that can go on at a time, which is told,

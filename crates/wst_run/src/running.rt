@@ -92,7 +92,9 @@ fn run_task<'x, N: Network, C: Connector, R: Read, W: Write, F: Write>(
             end_run(alloc, run_session(alloc, options, reader, writer), faults)
         }
         Task::Judge(options) => end_run(alloc, run_judge(alloc, options, reader, writer), faults),
-        Task::Convert => end_run(alloc, run_convert(alloc, reader, writer), faults),
+        Task::Convert(options) => {
+            end_run(alloc, run_convert(alloc, options, reader, writer), faults)
+        }
         Task::Cases(options) => run_cases(alloc, options, writer, faults),
         Task::Test(options) => run_test(site, &options, reader, writer, faults),
         Task::Send(options) => run_send(site, &options, reader, writer, faults),

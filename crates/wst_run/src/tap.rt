@@ -149,6 +149,7 @@ fn tap_server<C: Connector, W: Write, F: Write>(
         at_once,
         count: options.count,
         style: options.style,
+        time: options.time,
     };
     let ended = tap_over(alloc, &plan, connector, writer, faults);
     end_run(alloc, ended, faults)

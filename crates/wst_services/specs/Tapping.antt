@@ -1,5 +1,5 @@
 -- Connections that are tapped, so many at a time: the lines that are told of them, and how that ended.
-use Rattle.std.specs.Prelude.{◌≡◌, ℕ, ◌+◌, ◌≤◌, ◌<◌, ◌⊎◌, true, false, List, [], ◌++◌, Result, Ok, Err, length}
+use Rattle.std.specs.Prelude.{◌≡◌, ℕ, ◌+◌, ◌≤◌, ◌<◌, ◌⊎◌, true, false, List, [], ◌++◌, Result, Ok, Err, Some, length}
 use Rattle.std.specs.List.{All}
 use Rattle.ws_frame.specs.Devices.{Device, HasWritten, IsUntouched}
 use Rattle.ws_tap.specs.Running.{IsTapText}
@@ -17,6 +17,7 @@ use Rattle.wst_commands.specs.declared.exit.Exit.{Exit}
 use Rattle.wst_commands.specs.declared.exit.Exit.TheVariants.{Done, Failed}
 use Rattle.wst_commands.specs.declared.fault.Fault.{Fault}
 use Rattle.wst_commands.specs.declared.fault.Fault.TheVariants.{NoMemory}
+use Rattle.wst_noted.specs.TimedLines.{AreTimed, InLine}
 use Rattle.wst_sockets.specs.Listening.{IsToldFor}
 use Rattle.wst_services.specs.Serve.{ServesNone, StopsAtListening, TellsFullOnce, listening_line}
 use Rattle.wst_services.specs.declared.tapping.TapPlan.{TapPlan}
@@ -97,3 +98,21 @@ TapsToldAt plan address ended output faults = TapsPlan plan (listening_line addr
 abbrev pub TapsAt : TapPlan → Result Exit Fault → Device → Device → Type 0
 TapsAt plan ended output faults = ((address : List ℕ) × IsToldFor plan.listen.now address
     × TapsToldAt plan address ended output faults) ⊎ (ServesNone ended output × IsUntouched faults)
+
+-- What a device that held nothing holds is what the output holds, where that held nothing too: the first line as it is,
+-- and each other one behind a time.
+abbrev pub IsTimedBehindFirst : Device → Device → Type 0
+IsTimedBehindFirst shown output = output.old ≡ Some [] → (shown.old ≡ Some []) × ((lines : List ℕ)
+    → shown.new ≡ Some lines → (bytes : List ℕ) × (output.new ≡ Some bytes) × AreTimed InLine bytes lines)
+
+-- Connections are tapped, as is told to a device; what that shows stands in one that held what the output held. That
+-- this one is the output isn't said. Or memory ran out for a time.
+abbrev pub TapsTimed : TapPlan → Result Exit Fault → Device → Device → Type 0
+TapsTimed plan ended output faults = (inner : Result Exit Fault) × (shown : Device) × (behind : Device)
+    × TapsAt plan inner shown faults × (behind.old ≡ output.old) × IsTimedBehindFirst shown behind
+    × ((ended ≡ inner) ⊎ (ended ≡ Err NoMemory))
+
+-- connections are tapped, and each of their lines stands behind a time where the plan wants that
+abbrev pub TapsOver : TapPlan → Result Exit Fault → Device → Device → Type 0
+TapsOver plan ended output faults = ((plan.time ≡ false) × TapsAt plan ended output faults)
+    ⊎ ((plan.time ≡ true) × TapsTimed plan ended output faults)

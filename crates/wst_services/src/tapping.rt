@@ -1,14 +1,16 @@
 //! Connections between clients and a server that are tapped, so many at a time, and the lines that are told of them
 //! (docs/FORMATS.md).
 
-ghost use Rattle.std.specs.Prelude.{◌≡◌, [], false};
+ghost use Rattle.std.specs.Prelude.{◌≡◌, ◌⊎◌, Err, [], false};
 ghost use Rattle.ws_frame.specs.Devices.{watched};
 ghost use Rattle.ws_frame.specs.Watching.{has_failed};
-ghost use Rattle.wst_services.specs.Tapping.{TapsAt, TapsPlan, tapping_exit};
+ghost use Rattle.wst_commands.specs.declared.fault.Fault.TheVariants as fault;
+ghost use Rattle.wst_services.specs.Tapping.{TapsAt, TapsOver, TapsPlan, TapsTimed, tapping_exit};
 
 use crate::served_lines::FULL;
 use crate::serving_clients::tell_listening;
 use std::alloc::Global;
+use std::cell::Cell;
 use std::io::Write;
 use ws_frame::{DataStyle, Watched};
 use ws_loops::{Listener, Poller};
@@ -16,6 +18,7 @@ use ws_networks::Network;
 use ws_relays::{Over, ShortageSink, Tapping, TappingEnd, tap_clients};
 use wst_commands::{Exit, Fault, tell};
 use wst_network::Connector;
+use wst_noted::{Ages, TimedWriter};
 use wst_sockets::{Heard, listen_over};
 
 /// Connections that are to be tapped over a network.
@@ -31,6 +34,8 @@ pub struct TapPlan<'a> {
     pub count: Option<u32>,
     /// How payloads are shown.
     pub style: DataStyle,
+    /// Each line of a connection stands behind the time since that began.
+    pub time: bool,
 }
 
 /// Listens at the address, which is told in a line, with the port that the system chose in the place of a port 0, and
@@ -39,6 +44,55 @@ pub struct TapPlan<'a> {
 pub fn tap_over<C: Connector, W: Write, F: Write>(
     alloc: Global,
     plan: &TapPlan<'_>,
+    connector: &C,
+    writer: &mut Watched<W>,
+    faults: &mut Watched<F>,
+) -> Result<Exit, Fault>
+    requires { has_failed writer.old ≡ false }
+    ensures { TapsOver plan.now result (watched W.contents writer.old writer.new)
+        (watched F.contents faults.old faults.new) }
+{
+    let age = Cell::new(0);
+    if plan.time {
+        return tap_timed(alloc, plan, &age, connector, writer, faults);
+    }
+    tap_at(alloc, plan, &age, connector, writer, faults)
+}
+
+/// Taps them with each line of a connection behind the time since that began.
+#[inline(never)]
+fn tap_timed<C: Connector, W: Write, F: Write>(
+    alloc: Global,
+    plan: &TapPlan<'_>,
+    age: &Cell<u64>,
+    connector: &C,
+    writer: &mut Watched<W>,
+    faults: &mut Watched<F>,
+) -> Result<Exit, Fault>
+    ensures { TapsTimed plan.now result (watched W.contents writer.old writer.new)
+        (watched F.contents faults.old faults.new) }
+{
+    let ages = Ages::of(age);
+    let mut output = Watched::new(TimedWriter::of(alloc, &mut *writer, &ages));
+    let ended = tap_at(alloc, plan, age, connector, &mut output, faults);
+    let _ = output.into_inner().into_inner();
+    timed_end(&ages, ended)
+}
+
+/// How that ended, or that memory ran out for a time.
+fn timed_end(ages: &Ages<'_>, ended: Result<Exit, Fault>) -> Result<Exit, Fault>
+    ensures { (result ≡ ended) ⊎ (result ≡ Err fault.NoMemory) }
+{
+    ages.check()?;
+    ended
+}
+
+/// Taps them, and has the age of a connection where its lines are told.
+#[inline(never)]
+fn tap_at<C: Connector, W: Write, F: Write>(
+    alloc: Global,
+    plan: &TapPlan<'_>,
+    age: &Cell<u64>,
     connector: &C,
     writer: &mut Watched<W>,
     faults: &mut Watched<F>,
@@ -62,13 +116,14 @@ pub fn tap_over<C: Connector, W: Write, F: Write>(
         listener,
         poller,
     };
-    tap_plan(alloc, plan, over, writer, faults)
+    tap_plan(alloc, plan, age, over, writer, faults)
 }
 
 /// Taps the connections of those who come, and tells of them.
 fn tap_plan<N, L, P, W: Write, F: Write>(
     alloc: Global,
     plan: &TapPlan<'_>,
+    age: &Cell<u64>,
     over: Over<N, L, P>,
     writer: &mut Watched<W>,
     faults: &mut Watched<F>,
@@ -88,7 +143,7 @@ where
         count: plan.count,
     };
     let mut shortage = ToldShortage { faults };
-    exit_of(tap_clients(alloc, &tapping, over, writer, &mut shortage))
+    exit_of(tap_clients(alloc, &tapping, over, writer, &mut shortage, age))
 }
 
 /// The exit of a tapping that has ended so.

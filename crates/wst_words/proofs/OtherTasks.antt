@@ -43,7 +43,7 @@ task_name (Pair options) = codes "pair"
 task_name (Head options) = codes "head"
 task_name (Session options) = codes "session"
 task_name (Judge options) = codes "judge"
-task_name Convert = codes "convert"
+task_name (Convert options) = codes "convert"
 task_name (Cases options) = codes "cases"
 task_name (Test options) = codes "test"
 task_name (Send options) = codes "send"
@@ -58,7 +58,7 @@ called name rows (Pair options) asks = asks.0
 called name rows (Head options) asks = asks.0
 called name rows (Session options) asks = asks.0
 called name rows (Judge options) asks = asks.0
-called name rows Convert asks = asks
+called name rows (Convert options) asks = asks.0
 called name rows (Cases options) asks = asks.0
 called name rows (Test options) asks = asks.0
 called name rows (Send options) asks = asks.0
@@ -233,7 +233,8 @@ tap_lacks rows options (inr (inl listen)) asks = no_word rows (codes "listen") o
 tap_lacks rows options (inr (inr (inl target))) asks = no_word rows (codes "target") options.target.now target asks.1
 tap_lacks rows options (inr (inr (inr (inl count)))) asks = count options.count asks.3
 tap_lacks rows options (inr (inr (inr (inr (inl shown))))) asks = shown options.style asks.4
-tap_lacks rows options (inr (inr (inr (inr (inr none))))) asks = absurd none
+tap_lacks rows options (inr (inr (inr (inr (inr (inl time)))))) asks = time options.time asks.5
+tap_lacks rows options (inr (inr (inr (inr (inr (inr none)))))) asks = absurd none
 
 pub no_tap : (name : Text) (rows : List Row) → name ≡ codes "tap" → LacksOneOf rows tap_command.arguments
     → CommandAsksNothing (Some (name, rows))

@@ -274,9 +274,21 @@ protocol_judge places = (
 abbrev convert_words : List Text
 convert_words = words (codes "convert" ∷ [])
 
-pub plain_convert : (places : Places) → AsksFor (wst_app places) convert_words Convert
+pub plain_convert : (places : Places)
+    → AsksFor (wst_app places) convert_words (Convert (record { from = None; role = None }))
 unfolding on_words
-plain_convert places = (refl, refl)
+plain_convert places = (refl, (refl, (refl, refl)))
+
+-- and `wst convert --from tshark --role client` what tshark printed, as a capture whose client is judged
+abbrev followed_words : List Text
+followed_words = words (codes "convert" ∷ codes "--from" ∷ codes "tshark" ∷ codes "--role" ∷ codes "client" ∷ [])
+
+pub followed_convert : (places : Places)
+    → option_map (λ met. first_of (codes "from") met.1 ∷ first_of (codes "role") met.1 ∷ [])
+    (subcommand_of (wst_app places) followed_words)
+    ≡ Some (Some (codes "tshark") ∷ Some (codes "client") ∷ [])
+unfolding on_words
+followed_convert places = refl
 
 -- `wst cases` lists the cases
 abbrev cases_words : List Text
@@ -428,10 +440,10 @@ test_deadline places = refl
 -- such words can fail for want of memory alone
 pub asking_words_are_taken : (places : Places)
     → map (takes (wst_app places)) (plain_words ∷ client_words ∷ head_words ∷ protocol_words ∷ no_protocol_words
-    ∷ session_words ∷ echo_words ∷ judge_words ∷ convert_words ∷ cases_words ∷ some_cases_words ∷ test_words
-    ∷ titles_words ∷ serve_words ∷ waiting_words ∷ client_test_words ∷ known_words ∷ client_wait_words
+    ∷ session_words ∷ echo_words ∷ judge_words ∷ convert_words ∷ followed_words ∷ cases_words ∷ some_cases_words
+    ∷ test_words ∷ titles_words ∷ serve_words ∷ waiting_words ∷ client_test_words ∷ known_words ∷ client_wait_words
     ∷ deadline_words ∷ endless_words ∷ [])
     ≡ true ∷ true ∷ true ∷ true ∷ true ∷ true ∷ true ∷ true ∷ true ∷ true ∷ true ∷ true ∷ true ∷ true ∷ true ∷ true
-    ∷ true ∷ true ∷ true ∷ true ∷ []
+    ∷ true ∷ true ∷ true ∷ true ∷ true ∷ []
 unfolding on_words
 asking_words_are_taken places = refl

@@ -6,6 +6,7 @@ pub mod Head
 pub mod Pair
 pub mod Session
 pub mod Judge
+pub mod Convert
 pub mod Cases
 pub mod RunOptions
 pub mod Test

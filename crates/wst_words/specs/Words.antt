@@ -6,6 +6,7 @@ use Rattle.clap.specs.declared.error.Error.{Error}
 use Rattle.wst_words.specs.Arguments.{Places, name_parsers}
 use Rattle.wst_words.specs.Cases.{AsksForCases, cases_command}
 use Rattle.wst_words.specs.Commands.{CommandRow, with_commands}
+use Rattle.wst_words.specs.Convert.{AsksToConvert, convert_command}
 use Rattle.wst_words.specs.Head.{AsksForHead, head_command}
 use Rattle.wst_words.specs.Judge.{AsksToJudge, judge_command}
 use Rattle.wst_words.specs.Pair.{AsksToPair, pair_command}
@@ -27,10 +28,6 @@ use Rattle.wst_words.specs.declared.words.WordsFault.TheVariants.{Clap, NoTask}
 
 -- ---- the commands
 
--- a command without arguments
-abbrev pub bare_command : Text → CommandRow
-bare_command name = record { name = name; arguments = [] }
-
 -- each command
 abbrev pub row_of : CommandName → CommandRow
 row_of name.Show = show_command
@@ -38,7 +35,7 @@ row_of name.Head = head_command
 row_of name.Pair = pair_command
 row_of name.Session = session_command
 row_of name.Judge = judge_command
-row_of name.Convert = bare_command (codes "convert")
+row_of name.Convert = convert_command
 row_of name.Cases = cases_command
 row_of name.Test = test_command
 row_of name.Send = send_command
@@ -70,7 +67,7 @@ CommandAsks (Some (name, rows)) (Pair options) = (name ≡ codes "pair") × Asks
 CommandAsks (Some (name, rows)) (Head options) = (name ≡ codes "head") × AsksForHead rows options
 CommandAsks (Some (name, rows)) (Session options) = (name ≡ codes "session") × AsksForSession rows options
 CommandAsks (Some (name, rows)) (Judge options) = (name ≡ codes "judge") × AsksToJudge rows options
-CommandAsks (Some (name, rows)) Convert = name ≡ codes "convert"
+CommandAsks (Some (name, rows)) (Convert options) = (name ≡ codes "convert") × AsksToConvert rows options
 CommandAsks (Some (name, rows)) (Cases options) = (name ≡ codes "cases") × AsksForCases rows options
 CommandAsks (Some (name, rows)) (Test options) = (name ≡ codes "test") × AsksToTest rows options
 CommandAsks (Some (name, rows)) (Send options) = (name ≡ codes "send") × AsksToSend rows options

@@ -92,7 +92,7 @@ fn arguments_of(command: CommandName) -> &'static [Argument]
         CommandName::Pair => pair::arguments(),
         CommandName::Session => session::arguments(),
         CommandName::Judge => judge::arguments(),
-        CommandName::Convert => &[],
+        CommandName::Convert => convert::arguments(),
         CommandName::Cases => cases::arguments(),
         CommandName::Test => test::arguments(),
         CommandName::Send => send::arguments(),

@@ -25,6 +25,7 @@ mod test;
 mod words;
 
 pub use cases::CasesOptions;
+pub use convert::ConvertOptions;
 pub use head::HeadOptions;
 pub use judge::JudgeOptions;
 pub use pair::PairOptions;

@@ -7,9 +7,9 @@ ghost use Rattle.wst_words.specs.Tap.{AsksToTap, tap_command};
 ghost use Rattle.wst_words.specs.Arguments.{argument_row};
 
 use crate::arguments::Argument;
-use crate::arguments::ArgumentKind::{FreeCount, NeededWord, Word};
+use crate::arguments::ArgumentKind::{Flag, FreeCount, NeededWord, Word};
 use crate::commands::HelpText;
-use crate::options::{count_if_any, style_of, word_of};
+use crate::options::{count_if_any, flag_of, style_of, word_of};
 use crate::show::DATA;
 use clap::ArgMatches;
 use ws_frame::DataStyle;
@@ -27,10 +27,12 @@ pub struct TapOptions<'a> {
     pub count: Option<u32>,
     /// How payloads are shown.
     pub style: DataStyle,
+    /// Each line stands behind the time since its connection began.
+    pub time: bool,
 }
 
 /// Its arguments.
-static ARGUMENTS: [Argument; 5] = [
+static ARGUMENTS: [Argument; 6] = [
     Argument {
         name: "at-once",
         kind: Word,
@@ -64,6 +66,14 @@ static ARGUMENTS: [Argument; 5] = [
         help: "Stop after COUNT connections [default: never]",
     },
     DATA,
+    Argument {
+        name: "time",
+        kind: Flag,
+        default: None,
+        value_name: "",
+        heading: None,
+        help: "Begin each line with the seconds since connecting",
+    },
 ];
 
 /// The arguments of `tap`.
@@ -83,12 +93,14 @@ pub(crate) fn tap_options<'a>(options: &ArgMatches<'a>) -> Option<TapOptions<'a>
     let at_once = word_of(options, "at-once")?;
     let count = count_if_any(options, "count")?;
     let style = style_of(options, "data")?;
+    let time = flag_of(options, "time")?;
     Some(TapOptions {
         listen,
         target,
         at_once,
         count,
         style,
+        time,
     })
 }
 

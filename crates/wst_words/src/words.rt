@@ -9,6 +9,7 @@ ghost use Rattle.wst_words.specs.Words.{CommandAsks, CommandAsksNothing, IsOfCla
 
 use crate::cases::{CasesOptions, cases_options};
 use crate::commands::wst_command;
+use crate::convert::{ConvertOptions, convert_options};
 use crate::head::{HeadOptions, head_options};
 use crate::judge::{JudgeOptions, judge_options};
 use crate::pair::{PairOptions, pair_options};
@@ -37,7 +38,7 @@ pub enum Task<'a> {
     /// The verdict on the capture that comes in.
     Judge(JudgeOptions),
     /// The capture that comes in, in format 2.
-    Convert,
+    Convert(ConvertOptions<'a>),
     /// The list of cases, or the text of one.
     Cases(CasesOptions<'a>),
     /// The verdicts on a server in cases.
@@ -173,7 +174,7 @@ fn plain_task<'a>(name: &str, options: &ArgMatches<'a>) -> Option<Task<'a>>
         "head" => Some(Task::Head(head_options(options))),
         "session" => Some(Task::Session(session_options(options)?)),
         "judge" => Some(Task::Judge(judge_options(options)?)),
-        "convert" => Some(Task::Convert),
+        "convert" => Some(Task::Convert(convert_options(options))),
         "cases" => Some(Task::Cases(cases_options(options)?)),
         "report" => Some(Task::Report(report_options(options)?)),
         "serve" => Some(Task::Serve(serve_options(options)?)),

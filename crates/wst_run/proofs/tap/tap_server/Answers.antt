@@ -11,8 +11,9 @@ returns g c = inl (
     at_once = c.in-Some.at_once;
     count = c.args.options.now.count;
     style = c.args.options.now.style;
+    time = c.args.options.now.time;
   },
-  (refl, refl, refl, refl, c.in-Some.ensures),
+  (refl, refl, refl, refl, refl, c.in-Some.ensures),
   (
     c.tap_over-ended.result,
     g.F.Write.contents (inner_of c.tap_over-ended.new.faults),

@@ -10,7 +10,7 @@ use Rattle.wst_commands.specs.declared.fault.Fault.TheVariants.{NoMemory}
 use Rattle.wst_services.specs.Serve.{listening_line}
 use Rattle.wst_services.proofs.ServedLemmas.{lacks_unheard, unheard_none}
 use Rattle.wst_services.proofs.TapLemmas.{taps_behind}
-use Rattle.wst_services.proofs.tapping.tap_over.Goals as goal
+use Rattle.wst_services.proofs.tapping.tap_at.Goals as goal
 
 pub returns-then-failed : goal.returns-then-failed
 returns-then-failed g c =
