@@ -85,7 +85,7 @@ def examples_of(text):
     for line in re.sub(r"(?: \\|(?<=\|))\n +", " ", lines).splitlines():
         if line.startswith("  # "):
             comment = line.removeprefix("  # ")
-        elif not re.search(r"localhost|127\.0\.0\.1|[^' ]* < |\*\.", line):
+        elif not re.search(r"localhost|127\.0\.0\.1|[^' ]* < |\*\.|\.pcap", line):
             yield comment, line.strip()
 
 

@@ -17,8 +17,8 @@ FEW = 40
 class Crowd(Tap):
     """A tap with several connections, whose lines are told apart by their numbers."""
 
-    def __init__(self, count, at_once, target=None, before=None):
-        super().__init__(count, target, before, (f"--at-once={at_once}",))
+    def __init__(self, count, at_once, target=None, before=None, options=()):
+        super().__init__(count, target, before, (f"--at-once={at_once}", *options))
         self.kept = {}
 
     def next_line_of(self, number):
